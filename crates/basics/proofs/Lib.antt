@@ -1,0 +1,5 @@
+-- The laws of the idioms, and what it means that a contract fixes its result.
+pub mod Choose
+pub mod Determined
+pub mod Each
+pub mod First

@@ -1,0 +1,127 @@
+-- Legs of a path: how a path by value grows by a leg, how long a leg is, and that a leg between two places stays inside.
+-- In order: `pushed` and `walked` on the path of a list; then the steps of a straight leg; then the leg along a row and the
+-- leg along a column, which serve every order of the two.
+use mathlib.Core.Path.{_≡_, refl, sym, _∙_, ap, ap₂}
+use mathlib.Core.Bool.{Bool, true, false}
+use mathlib.Core.List.{List, [], _∷_, _++_, append-assoc, append-nil}
+use Prim.Native.Nat.{ℕ, zero, suc, _+_, _*_, _-_, _≤_, _<_}
+use native.Mathlib.Nat.{suc-mul}
+use native.Mathlib.Omega.{arith}
+use lib.Dec.{leb}
+use Rattle.basics.specs.Choose.{choose}
+use lib.ListN.{length, replicate, set, length-append}
+use lib.Seq.{set-at}
+use borrow.Author.Tests.{leb-true}
+use Rattle.mesh.specs.Node.{nodeAt, apart}
+use Rattle.mesh.specs.Link.{linkOf, steps, stepOf, endOf}
+use Rattle.mesh.specs.Route.{towards, leg, pathOf}
+use Rattle.mesh.specs.Walk.{pushed, walked, Inside, Stays}
+use Rattle.mesh.specs.declared.nodes.Place.{Place}
+use Rattle.mesh.specs.declared.paths.Path.{Path}
+
+-- ---- a path by value
+
+-- one more link on the path of a list is the path of the list with one more link
+pub push-path : (ls : List ℕ) (l : ℕ) → length ls < 32 → pushed (pathOf ls) l ≡ pathOf (ls ++ (l ∷ []))
+unfolding pushed pathOf
+push-path ls l h =
+    let more : length (ls ++ (l ∷ [])) ≡ length ls + 1 = length-append ls (l ∷ []) in
+    let room : 32 - length ls ≡ suc (32 - (length ls + 1)) = omega arith in
+    ap₂ {C = Path} (λ (links : List ℕ) (len : ℕ). record { links = links; len = len })
+    (ap (λ (k : ℕ). set (ls ++ replicate k 0) (length ls) l) room
+    ∙ set-at ls 0 (replicate (32 - (length ls + 1)) 0) l (length ls) refl
+    ∙ sym (append-assoc ls (l ∷ []) (replicate (32 - (length ls + 1)) 0))
+    ∙ ap (λ (k : ℕ). (ls ++ (l ∷ [])) ++ replicate (32 - k) 0) (sym more))
+    (sym more)
+
+-- a walk on the path of a list is the path of the list with the leg after it
+pub walk-path : (columns kind n : ℕ) (ls : List ℕ) (at : Place) → length ls + n ≤ 32
+    → walked (pathOf ls) columns kind n at ≡ pathOf (ls ++ leg columns kind n at)
+unfolding walked leg
+walk-path columns kind zero ls at h = ap pathOf (sym (append-nil ls))
+walk-path columns kind (suc n) ls at h =
+    let l = linkOf (nodeAt columns at) kind in
+    ap (λ (p : Path). walked p columns kind n (endOf kind at)) (push-path ls l (omega arith))
+    ∙ walk-path columns kind n (ls ++ (l ∷ [])) (endOf kind at) (omega (arith, length-append ls (l ∷ [])))
+    ∙ ap pathOf (append-assoc ls (l ∷ []) (leg columns kind n (endOf kind at)))
+
+-- a leg has as many links as steps
+pub leg-length : (columns kind n : ℕ) (at : Place) → length (leg columns kind n at) ≡ n
+unfolding leg
+leg-length columns kind zero at = refl
+leg-length columns kind (suc n) at = ap suc (leg-length columns kind n (endOf kind at))
+
+-- ---- straight legs
+
+-- n steps that go no further than the mesh does stay inside
+pub straight : (columns rows kind n : ℕ) (at : Place)
+    → n * stepOf kind .west ≤ at .column → n * stepOf kind .north ≤ at .row
+    → at .column + n * stepOf kind .east < columns → at .row + n * stepOf kind .south < rows
+    → Stays columns rows kind n at
+unfolding endOf
+straight columns rows kind zero at w n e s = record { column-in = omega arith; row-in = omega arith }
+straight columns rows kind (suc n) at w o e s =
+    let more : (x : ℕ) → suc n * x ≡ n * x + x = suc-mul n in
+    let west = more (stepOf kind .west) in
+    let north = more (stepOf kind .north) in
+    let east = more (stepOf kind .east) in
+    let south = more (stepOf kind .south) in (
+      record { column-in = omega arith; row-in = omega arith },
+      omega arith,
+      omega arith,
+      straight columns rows kind n (endOf kind at) (omega arith) (omega arith) (omega arith) (omega arith),
+    )
+
+-- the leg along the row to another column stays inside
+pub row-stays : (columns rows : ℕ) (p q : Place) → Inside columns rows p → Inside columns rows q
+    → Stays columns rows (towards 2 (p .column) (q .column)) (apart (p .column) (q .column)) p
+unfolding towards apart steps stepOf
+row-stays columns rows p q i j = go (leb (p .column) (q .column)) refl
+  where
+    go : (t : Bool) → leb (p .column) (q .column) ≡ t → Stays columns rows (towards 2 (p .column) (q .column)) (apart (p .column) (q .column)) p
+    go true e =
+        let h = leb-true (p .column) (q .column) e in
+        rw (e, towards, apart) (straight columns rows 2 (q .column - p .column) p (omega arith) (omega arith) (omega arith) (omega arith))
+    go false e = rw (e, towards, apart) (straight columns rows 3 (p .column - q .column) p (omega arith) (omega arith) (omega arith) (omega arith))
+
+-- the leg along the column to another row stays inside
+pub column-stays : (columns rows : ℕ) (p q : Place) → Inside columns rows p → Inside columns rows q
+    → Stays columns rows (towards 4 (p .row) (q .row)) (apart (p .row) (q .row)) p
+unfolding towards apart steps stepOf
+column-stays columns rows p q i j = go (leb (p .row) (q .row)) refl
+  where
+    go : (t : Bool) → leb (p .row) (q .row) ≡ t → Stays columns rows (towards 4 (p .row) (q .row)) (apart (p .row) (q .row)) p
+    go true e =
+        let h = leb-true (p .row) (q .row) e in
+        rw (e, towards, apart) (straight columns rows 4 (q .row - p .row) p (omega arith) (omega arith) (omega arith) (omega arith))
+    go false e = rw (e, towards, apart) (straight columns rows 5 (p .row - q .row) p (omega arith) (omega arith) (omega arith) (omega arith))
+
+-- ---- the stages of a route
+
+-- the kind that leads towards a column or a row is that kind or the next
+pub towards-lt : (kind a b : ℕ) → kind < 5 → towards kind a b < 6
+unfolding towards
+towards-lt kind a b h = go (leb a b)
+  where
+    go : (t : Bool) → choose t kind (kind + 1) < 6
+    go true = omega arith
+    go false = omega arith
+
+-- a path says how many links it lists
+pub path-len : (p : Path) (ls : List ℕ) → p ≡ pathOf ls → p .len ≡ length ls
+unfolding pathOf
+path-len p ls e = ap (λ (q : Path). q .len) e
+
+-- the first link on the empty path
+pub begun : (p : Path) (l : ℕ) → p ≡ pushed (record { links = replicate 32 0; len = 0 }) l → p ≡ pathOf (l ∷ [])
+unfolding pathOf
+begun p l e = e ∙ push-path [] l (omega arith)
+
+-- one more link after those of a list
+pub grown : (p p′ : Path) (ls : List ℕ) (l : ℕ) → p ≡ pathOf ls → length ls < 32 → p′ ≡ pushed p l → p′ ≡ pathOf (ls ++ (l ∷ []))
+grown p p′ ls l e h e′ = e′ ∙ ap (λ (q : Path). pushed q l) e ∙ push-path ls l h
+
+-- a walk after the links of a list
+pub gone : (columns kind n : ℕ) (p p′ : Path) (ls : List ℕ) (at : Place) → p ≡ pathOf ls → length ls + n ≤ 32 → p′ ≡ walked p columns kind n at
+    → p′ ≡ pathOf (ls ++ leg columns kind n at)
+gone columns kind n p p′ ls at e h e′ = e′ ∙ ap (λ (q : Path). walked q columns kind n at) e ∙ walk-path columns kind n ls at h

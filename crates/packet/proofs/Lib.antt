@@ -1,0 +1,3 @@
+-- The laws of packets and tables.
+pub mod Packet
+pub mod Table

@@ -1,0 +1,1 @@
+// Packets as the definitions see them. There is no code here: see specs/ and proofs/.

@@ -1,0 +1,1 @@
+// Replay, cycle by cycle: definitions and theorems only, see specs/ and proofs/.
