@@ -3,3 +3,4 @@ pub mod Choose
 pub mod Determined
 pub mod Each
 pub mod First
+pub mod Lists

@@ -12,6 +12,11 @@ abbrev pub both : Bool → Bool → Bool
 both true b = b
 both false b = false
 
+-- one test or the other passes
+abbrev pub either : Bool → Bool → Bool
+either true b = true
+either false b = b
+
 -- 1 for a test that passes, else 0
 abbrev pub asNumber : Bool → ℕ
 asNumber true = 1

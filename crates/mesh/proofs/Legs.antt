@@ -9,8 +9,9 @@ use native.Mathlib.Nat.{suc-mul}
 use native.Mathlib.Omega.{arith}
 use lib.Dec.{leb}
 use Rattle.basics.specs.Choose.{choose}
-use lib.ListN.{length, replicate, set, length-append}
-use lib.Seq.{set-at}
+use Rattle.basics.specs.Lists.{padded}
+use Rattle.basics.proofs.Lists.{padded-push}
+use lib.ListN.{length, replicate, length-append}
 use borrow.Author.Tests.{leb-true}
 use Rattle.mesh.specs.Node.{nodeAt, apart}
 use Rattle.mesh.specs.Link.{linkOf, steps, stepOf, endOf}
@@ -25,14 +26,8 @@ use Rattle.mesh.specs.declared.paths.Path.{Path}
 pub push-path : (ls : List ℕ) (l : ℕ) → length ls < 32 → pushed (pathOf ls) l ≡ pathOf (ls ++ (l ∷ []))
 unfolding pushed pathOf
 push-path ls l h =
-    let more : length (ls ++ (l ∷ [])) ≡ length ls + 1 = length-append ls (l ∷ []) in
-    let room : 32 - length ls ≡ suc (32 - (length ls + 1)) = omega arith in
     ap₂ {C = Path} (λ (links : List ℕ) (len : ℕ). record { links = links; len = len })
-    (ap (λ (k : ℕ). set (ls ++ replicate k 0) (length ls) l) room
-    ∙ set-at ls 0 (replicate (32 - (length ls + 1)) 0) l (length ls) refl
-    ∙ sym (append-assoc ls (l ∷ []) (replicate (32 - (length ls + 1)) 0))
-    ∙ ap (λ (k : ℕ). (ls ++ (l ∷ [])) ++ replicate (32 - k) 0) (sym more))
-    (sym more)
+    (padded-push 32 0 ls l h) (sym (length-append ls (l ∷ [])))
 
 -- a walk on the path of a list is the path of the list with the leg after it
 pub walk-path : (columns kind n : ℕ) (ls : List ℕ) (at : Place) → length ls + n ≤ 32
@@ -114,7 +109,7 @@ path-len p ls e = ap (λ (q : Path). q .len) e
 
 -- the first link on the empty path
 pub begun : (p : Path) (l : ℕ) → p ≡ pushed (record { links = replicate 32 0; len = 0 }) l → p ≡ pathOf (l ∷ [])
-unfolding pathOf
+unfolding padded pathOf
 begun p l e = e ∙ push-path [] l (omega arith)
 
 -- one more link after those of a list

@@ -3,7 +3,8 @@ use mathlib.Core.Path.{_≡_}
 use mathlib.Core.List.{List, [], _∷_, _++_}
 use Prim.Native.Nat.{ℕ, zero, suc, _+_, _*_, _-_, _<_, _≤_}
 use lib.Dec.{leb}
-use lib.ListN.{length, take, replicate}
+use lib.ListN.{length, take}
+use Rattle.basics.specs.Lists.{padded}
 use Rattle.basics.specs.Choose.{choose}
 use Rattle.mesh.specs.Node.{placeOf, nodeAt, apart}
 use Rattle.mesh.specs.Link.{linkOf, nodeOf, endOf, endNode}
@@ -40,7 +41,7 @@ routeOf columns source target =
 
 -- the links of a path as an array of 32 beside their number; what follows them is 0
 unfoldable pub pathOf : List ℕ → Path
-pathOf links = record { links = links ++ replicate (32 - length links) 0; len = length links }
+pathOf links = record { links = padded 32 0 links; len = length links }
 
 -- the links that a path lists
 unfoldable pub linksOf : Path → List ℕ

@@ -2,8 +2,6 @@
 -- `Post` is a contract's `ensures` as a plain claim of the arguments, the result and the arguments at exit; `hyper_period` reads a
 -- lent slice, and there the same numbers are enough, wherever they are kept.
 use mathlib.Core.Path.{_≡_, sym, _∙_, ap}
-use mathlib.Core.List.{List}
-use Prim.Native.Nat.{ℕ}
 use contract.Lifetimes.{Lfts}
 use denote.Ref.{now}
 use denote.Triple.Clauses.{AtExit}

@@ -4,6 +4,7 @@ mod units;
 mod window;
 
 pub use hyper::Hyper;
+pub use hyper::MOST;
 pub use hyper::gcd;
 pub use hyper::hyper_period;
 pub use units::Bytes;

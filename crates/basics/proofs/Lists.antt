@@ -1,0 +1,61 @@
+-- Laws of lists given by a rule, and of lists filled up to a length, as an array is that is filled from the front.
+use mathlib.Core.Path.{_≡_, refl, sym, _∙_, ap, subst}
+use mathlib.Core.List.{List, [], _∷_, _++_, append-assoc}
+use Prim.Native.Nat.{ℕ, zero, suc, _+_, _-_, _≤_, _<_}
+use native.Mathlib.Nat.{add-zero, add-suc, suc-add, not-suc-le-zero, le-of-suc-le-suc}
+use native.Mathlib.Omega.{arith}
+use lib.ListN.{length, getD, set, take, replicate, length-append, length-replicate, List·getD-append}
+use lib.Seq.{set-at, take-at}
+use Rattle.basics.specs.Lists.{tabulate, padded}
+
+-- ---- `tabulate`
+
+module _ {ℓ} {X : Type ℓ} (f : ℕ → X) where
+  -- it has as many entries as asked
+  pub tabulate-length : (i n : ℕ) → length (tabulate f i n) ≡ n
+  unfolding tabulate
+  tabulate-length i zero = refl
+  tabulate-length i (suc n) = ap suc (tabulate-length (suc i) n)
+
+  -- entry k is f at k from the start
+  pub tabulate-at : (i n k : ℕ) (d : X) → k < n → getD (tabulate f i n) k d ≡ f (i + k)
+  unfolding tabulate
+  tabulate-at i zero k d h = absurd (not-suc-le-zero h)
+  tabulate-at i (suc n) zero d h = ap f (sym (add-zero i))
+  tabulate-at i (suc n) (suc k) d h = tabulate-at (suc i) n k d (le-of-suc-le-suc h) ∙ ap f (suc-add i k ∙ sym (add-suc i k))
+
+  -- one entry more stands at the end
+  pub tabulate-snoc : (i n : ℕ) → tabulate f i (suc n) ≡ tabulate f i n ++ (f (i + n) ∷ [])
+  unfolding tabulate
+  tabulate-snoc i zero = ap (λ (k : ℕ). f k ∷ []) (sym (add-zero i))
+  tabulate-snoc i (suc n) =
+      ap (λ (l : List X). f i ∷ l) (tabulate-snoc (suc i) n ∙ ap (λ (k : ℕ). tabulate f (suc i) n ++ (f k ∷ [])) (suc-add i n ∙ sym (add-suc i n)))
+
+-- ---- `padded`
+
+module _ {ℓ} {X : Type ℓ} (n : ℕ) (fill : X) where
+  -- it has n entries
+  pub padded-length : (xs : List X) → length xs ≤ n → length (padded n fill xs) ≡ n
+  unfolding padded
+  padded-length xs h = omega (arith, length-append xs (replicate (n - length xs) fill), length-replicate (n - length xs) fill)
+
+  -- its front is the list
+  pub padded-take : (xs : List X) → take (length xs) (padded n fill xs) ≡ xs
+  unfolding padded
+  padded-take xs = take-at xs (replicate (n - length xs) fill) (length xs) refl
+
+  -- an entry of the list
+  pub padded-at : (xs : List X) (k : ℕ) (d : X) → k < length xs → getD (padded n fill xs) k d ≡ getD xs k d
+  unfolding padded
+  padded-at xs k d h = List·getD-append xs (replicate (n - length xs) fill) d k h
+
+  -- storing behind the list puts one more entry on it
+  pub padded-push : (xs : List X) (x : X) → length xs < n → set (padded n fill xs) (length xs) x ≡ padded n fill (xs ++ (x ∷ []))
+  unfolding padded
+  padded-push xs x h =
+      let more : length (xs ++ (x ∷ [])) ≡ length xs + 1 = length-append xs (x ∷ []) in
+      let room : n - length xs ≡ suc (n - (length xs + 1)) = omega arith in
+      ap (λ (k : ℕ). set (xs ++ replicate k fill) (length xs) x) room
+      ∙ set-at xs fill (replicate (n - (length xs + 1)) fill) x (length xs) refl
+      ∙ sym (append-assoc xs (x ∷ []) (replicate (n - (length xs + 1)) fill))
+      ∙ ap (λ (k : ℕ). (xs ++ (x ∷ [])) ++ replicate (n - k) fill) (sym more)

@@ -1,0 +1,2 @@
+-- The theorem of the marked examples.
+pub mod Marked

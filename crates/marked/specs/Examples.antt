@@ -1,0 +1,42 @@
+-- Document 01's marked examples, as rows of numbers: what the definitions give, and what the document says.
+use mathlib.Core.List.{List, [], _∷_}
+use Prim.Native.Nat.{ℕ}
+use Rattle.basics.specs.Choose.{asNumber}
+use Rattle.mesh.specs.Route.{routeOf}
+use Rattle.time.specs.Units.{flitsOf, occupancyOf, turnsOf, latestOf}
+use Rattle.time.specs.Hyper.{hyperOf}
+use Rattle.packet.specs.Packet.{Packet, collide}
+
+-- an example: what the definitions give, and what the document says
+pub record Example : Type 0 where
+  pub gives : List ℕ
+  pub says : List ℕ
+
+-- the occupancy of a size in bytes over a distance
+unfoldable pub occupancyAt : ℕ → ℕ → ℕ → ℕ → ℕ
+occupancyAt r m size flit = (occupancyOf (record { 0 = r }) m (flitsOf (record { 0 = size }) (record { 0 = flit }))) .0
+
+-- a packet that holds one link for so many cycles
+unfoldable pub onOneLink : ℕ → Packet
+onOneLink occupancy = record { flow = 0; turn = 0; release = 0; deadline = 0; occupancy = occupancy; path = 0 ∷ [] }
+
+-- T1 to T8
+unfoldable pub examples : List Example
+examples =
+    -- T1: 2 × 2, 0 to 3
+    record { gives = routeOf 2 0 3; says = 0 ∷ 2 ∷ 10 ∷ 19 ∷ [] }
+    -- T2: 3 to 0
+    ∷ record { gives = routeOf 2 3 0; says = 18 ∷ 21 ∷ 17 ∷ 1 ∷ [] }
+    -- T3: r 6, m 2, 52 bytes, 4-byte flits
+    ∷ record { gives = occupancyAt 6 2 52 4 ∷ []; says = 32 ∷ [] }
+    -- T4: r 1, m 1, 1 byte, 2-byte flits
+    ∷ record { gives = occupancyAt 1 1 1 2 ∷ []; says = 3 ∷ [] }
+    -- T5: periods 4 and 6: H, and the packets of each
+    ∷ record { gives = hyperOf (4 ∷ 6 ∷ []) ∷ turnsOf 12 4 ∷ turnsOf 12 6 ∷ []; says = 12 ∷ 3 ∷ 2 ∷ [] }
+    -- T6: release 0, deadline 55, occupancy 23: latest start
+    ∷ record { gives = latestOf 55 23 ∷ []; says = 32 ∷ [] }
+    -- T7: one link, 0 for 416 cycles and 416 for 192: no collision
+    ∷ record { gives = asNumber (collide (onOneLink 416) 0 (onOneLink 192) 416) ∷ []; says = 0 ∷ [] }
+    -- T8: the second at 415: collision
+    ∷ record { gives = asNumber (collide (onOneLink 416) 0 (onOneLink 192) 415) ∷ []; says = 1 ∷ [] }
+    ∷ []

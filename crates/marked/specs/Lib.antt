@@ -1,0 +1,2 @@
+-- The marked examples.
+pub mod Examples
