@@ -6,6 +6,7 @@ use mathlib.Core.Bool.{Bool, true, false, not}
 use Prim.Native.Nat.{ℕ, zero, suc, _+_, _≤_, _<_}
 use native.Mathlib.Nat.{le-antisymm, lt-of-not-le}
 use native.Mathlib.Decide.{decLe}
+use lib.Dec.{ltb}
 use native.Mathlib.Omega.{arith}
 use borrow.Author.Tests.{ltb-true, ltb-false, lt-ltb, le-ltb, not-true, not-false}
 use Rattle.basics.specs.First.{firstFrom, first, some, every}
@@ -86,6 +87,17 @@ first-none test n none =
           absurd (differ test (first test n) (first-passes test n (lt-of-not-le a)) (none (first test n) (lt-of-not-le a)))
     ])
 
+-- two tests that agree below n have the same first
+pub first-same : (f g : ℕ → Bool) (n : ℕ) → ((i : ℕ) → i < n → f i ≡ g i) → first f n ≡ first g n
+first-same f g n same =
+    elim (decLe n (first g n)) [
+      | yes a ↦
+          first-none f n (λ j h. same j h ∙ first-least g n j (omega arith)) ∙ le-antisymm a (first-le g n)
+      | no a ↦
+          let l = lt-of-not-le a in
+          first-is f n (first g n) l (same (first g n) l ∙ first-passes g n l) (λ j h. same j (omega arith) ∙ first-least g n j h)
+    ]
+
 -- ---- `some`
 
 -- a number below n that passes is some
@@ -109,6 +121,11 @@ some-first test n h = ltb-true (first test n) n h
 pub none-passes : (test : ℕ → Bool) (n : ℕ) → some test n ≡ false → (j : ℕ) → j < n → test j ≡ false
 unfolding some
 none-passes test n h j k = first-least test n j (omega (arith, ltb-false (first test n) n h))
+
+-- two tests that agree below n agree on "some"
+pub some-same : (f g : ℕ → Bool) (n : ℕ) → ((i : ℕ) → i < n → f i ≡ g i) → some f n ≡ some g n
+unfolding some
+some-same f g n same = ap (λ (k : ℕ). ltb k n) (first-same f g n same)
 
 -- ---- `every`
 

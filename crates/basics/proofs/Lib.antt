@@ -4,3 +4,4 @@ pub mod Determined
 pub mod Each
 pub mod First
 pub mod Lists
+pub mod Sums

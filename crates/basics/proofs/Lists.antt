@@ -2,7 +2,8 @@
 use mathlib.Core.Path.{_≡_, refl, sym, _∙_, ap, subst}
 use mathlib.Core.List.{List, [], _∷_, _++_, append-assoc}
 use Prim.Native.Nat.{ℕ, zero, suc, _+_, _-_, _≤_, _<_}
-use native.Mathlib.Nat.{add-zero, add-suc, suc-add, not-suc-le-zero, le-of-suc-le-suc}
+use native.Mathlib.Nat.{add-zero, zero-add, add-suc, suc-add, not-suc-le-zero, le-of-suc-le-suc}
+use native.Mathlib.Numerals.{add-one}
 use native.Mathlib.Omega.{arith}
 use lib.ListN.{length, getD, set, take, replicate, length-append, length-replicate, List·getD-append}
 use lib.Seq.{set-at, take-at}
@@ -59,3 +60,14 @@ module _ {ℓ} {X : Type ℓ} (n : ℕ) (fill : X) where
       ∙ set-at xs fill (replicate (n - (length xs + 1)) fill) x (length xs) refl
       ∙ sym (append-assoc xs (x ∷ []) (replicate (n - (length xs + 1)) fill))
       ∙ ap (λ (k : ℕ). (xs ++ (x ∷ [])) ++ replicate (n - k) fill) (sym more)
+
+-- storing the next entry of a rule behind its first ones
+pub padded-tabulate {ℓ} : {X : Type ℓ} (n : ℕ) (fill : X) (f : ℕ → X) (k : ℕ) → k < n
+    → set (padded n fill (tabulate f 0 k)) k (f k) ≡ padded n fill (tabulate f 0 (k + 1))
+padded-tabulate n fill f k h =
+    let len = tabulate-length f 0 k in
+    ap (λ (i : ℕ). set (padded n fill (tabulate f 0 k)) i (f k)) (sym len)
+    ∙ padded-push n fill (tabulate f 0 k) (f k) (omega arith)
+    ∙ ap (λ (i : ℕ). padded n fill (tabulate f 0 k ++ (f i ∷ []))) (sym (zero-add k))
+    ∙ ap (padded n fill) (sym (tabulate-snoc f 0 k))
+    ∙ ap (λ (i : ℕ). padded n fill (tabulate f 0 i)) (sym (add-one k))

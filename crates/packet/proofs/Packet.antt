@@ -74,3 +74,8 @@ unfolding collide
 collide-swap a s b t =
     ap (λ (o : Bool). both o (shares (a .path) (b .path))) (overlaps-swap s (a .occupancy) t (b .occupancy))
     ∙ ap (both (overlaps t (b .occupancy) s (a .occupancy))) (shares-swap (a .path) (b .path))
+
+-- two packets that agree in every part are the same
+pub packet-same : (a b : Packet) → a .flow ≡ b .flow → a .turn ≡ b .turn → a .release ≡ b .release → a .deadline ≡ b .deadline
+    → a .occupancy ≡ b .occupancy → a .path ≡ b .path → a ≡ b
+packet-same a b f t r d o p = λ (i : 𝕀). record { flow = f i; turn = t i; release = r i; deadline = d i; occupancy = o i; path = p i }

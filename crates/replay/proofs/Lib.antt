@@ -4,3 +4,5 @@ pub mod Replay
 pub mod Fault
 pub mod Passed
 pub mod Receiver
+pub mod OfModel
+pub mod OfCheck

@@ -2,3 +2,4 @@
 pub mod Replay
 pub mod Sound
 pub mod Receiver
+pub mod Demand

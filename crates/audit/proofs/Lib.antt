@@ -1,0 +1,4 @@
+-- The laws of the check.
+pub mod Walks
+pub mod Pairs
+pub mod Cases

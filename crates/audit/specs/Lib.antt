@@ -1,0 +1,3 @@
+-- The check of a table.
+pub mod Check
+pub mod Scan

@@ -1,0 +1,5 @@
+// The check of a table.
+mod scan;
+mod verdict;
+
+pub use verdict::check;

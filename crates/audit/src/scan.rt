@@ -1,0 +1,80 @@
+// The two walks of the check: over the packets for a time out of range, then over the pairs for a collision.
+use mesh::share;
+use model::Flows;
+use model::Packets;
+use time::Window;
+use time::overlap;
+ghost use mathlib.Core.Path.{_≡_};
+ghost use Prim.Native.Nat.{_<_};
+ghost use Rattle.basics.specs.First.{first};
+ghost use Rattle.audit.specs.Scan.{strays, meetsIn, firstPair, Scan, Timely};
+
+// Two packets.
+pub struct Pair {
+    pub a: usize,
+    pub b: usize,
+}
+
+// The lowest packet whose time is outside its start range, or the number of packets.
+pub fn first_outside(flows: Flows, packets: Packets, table: &[u32]) -> usize
+    requires { ⌜ Scan flows packets (now table) ⌝ }
+    ensures { λ r. ⌜ r ≡ first (strays flows packets (now (table .entry))) (packets .count) ⌝ }
+{
+    let n = packets.count;
+    for p in 0..n {
+        let f = packets.flow[p] as usize;
+        let release = packets.release[p];
+        let latest = release + flows.due[f] - flows.occupancy[f];
+        let time = table[p];
+        if time < release {
+            return p;
+        }
+        if latest < time {
+            return p;
+        }
+    }
+    n
+}
+
+// The lowest packet above a that a collides with, or the number of packets. Windows are compared before links.
+fn next_meeting(flows: Flows, packets: Packets, table: &[u32], a: usize) -> usize
+    requires { ⌜ Timely flows packets (now table) × (a < packets .count) ⌝ }
+    ensures { λ r. ⌜ r ≡ first (meetsIn flows packets (now (table .entry)) a) (packets .count) ⌝ }
+{
+    let n = packets.count;
+    let f = packets.flow[a] as usize;
+    let window = Window {
+        start: table[a],
+        span: flows.occupancy[f],
+    };
+    let path = flows.path[f];
+    for b in a + 1..n {
+        let g = packets.flow[b] as usize;
+        let other = Window {
+            start: table[b],
+            span: flows.occupancy[g],
+        };
+        if overlap(window, other) {
+            let crossed = flows.path[g];
+            if share(path, crossed) {
+                return b;
+            }
+        }
+    }
+    n
+}
+
+// The lowest packet that collides with a higher-numbered one, and the lowest such; the number of packets for both if none does.
+pub fn first_meeting(flows: Flows, packets: Packets, table: &[u32]) -> Pair
+    requires { ⌜ Timely flows packets (now table) ⌝ }
+    ensures { λ r. ⌜ r ≡ firstPair flows packets (now (table .entry)) ⌝ }
+{
+    let n = packets.count;
+    for a in 0..n {
+        let b = next_meeting(flows, packets, table, a);
+        if b < n {
+            return Pair { a, b };
+        }
+    }
+    Pair { a: n, b: n }
+}

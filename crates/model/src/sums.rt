@@ -1,0 +1,72 @@
+// The hyper-period and the number of packets: refusals 8 and 9.
+use crate::answers::Refusal;
+use crate::flows::number_of;
+use time::Hyper;
+use time::hyper_period;
+ghost use mathlib.Core.Path.{_≡_};
+ghost use Prim.Native.Nat.{_≤_, _<_};
+ghost use Rattle.basics.specs.Lists.{padded};
+ghost use Rattle.time.specs.Hyper.{hyperWithin};
+ghost use Rattle.model.specs.Packets.{periodsOf, hyperIn, packetsIn};
+ghost use Rattle.model.specs.Refusals.{sumsRefusal};
+ghost use Rattle.model.specs.Fair.{Timed};
+
+// All periods, flow after flow; what follows them is 0.
+fn periods(numbers: &[u32]) -> [u32; 64]
+    requires { ⌜ Timed (now numbers) ⌝ }
+    ensures { λ r. ⌜ r ≡ padded 64 0 (periodsOf (now (numbers .entry))) ⌝ }
+{
+    let mut all = [0u32; 64];
+    let n = numbers.len() / 5;
+    for f in 0..n {
+        all[f] = number_of(numbers, f, 2);
+    }
+    all
+}
+
+// The hyper-period, or that it is above the limit.
+pub fn hyper_in(numbers: &[u32]) -> Hyper
+    requires { ⌜ Timed (now numbers) ⌝ }
+    ensures { λ r. ⌜ r ≡ hyperWithin (periodsOf (now (numbers .entry))) ⌝ }
+{
+    let n = numbers.len() / 5;
+    let all = periods(numbers);
+    hyper_period(&all[..n])
+}
+
+// How many packets there are in a hyper-period.
+pub fn packets_in(numbers: &[u32], hyper: u32) -> u32
+    requires { ⌜ Timed (now numbers) × (hyper ≡ hyperIn (now numbers)) × (hyper ≤ 16777216) ⌝ }
+    ensures { λ r. ⌜ r ≡ packetsIn (now (numbers .entry)) ⌝ }
+{
+    let mut sum: u32 = 0;
+    let n = numbers.len() / 5;
+    for f in 0..n {
+        sum += hyper / number_of(numbers, f, 2);
+    }
+    sum
+}
+
+// 8: H above 16,777,216. 9: more than 1,024 packets.
+pub fn refuse_sums(numbers: &[u32]) -> Refusal
+    requires { ⌜ Timed (now numbers) ⌝ }
+    ensures { λ r. ⌜ r ≡ sumsRefusal (now (numbers .entry)) ⌝ }
+{
+    let found = hyper_in(numbers);
+    let Hyper::Is(hyper) = found else {
+        return Refusal {
+            number: 8,
+            place: 0,
+        };
+    };
+    if 1024 < packets_in(numbers, hyper) {
+        return Refusal {
+            number: 9,
+            place: 0,
+        };
+    }
+    Refusal {
+        number: 0,
+        place: 0,
+    }
+}
