@@ -1,26 +1,25 @@
 -- The check's verdict, case by case; and that over a model that is not refused it is the verdict of document 01.
-use mathlib.Core.Path.{_≡_, refl, sym, _∙_, ap, ap₂}
-use mathlib.Core.Bool.{Bool, true, false, not}
+use mathlib.Core.Path.{_≡_, sym, _∙_, ap, ap₂}
+use mathlib.Core.Bool.{false, not}
 use mathlib.Core.List.{List}
-use Prim.Native.Nat.{ℕ, _+_, _≤_, _<_}
+use Prim.Native.Nat.{ℕ, _≤_, _<_}
 use native.Mathlib.Nat.{lt-of-not-le}
 use native.Mathlib.Decide.{decLe}
 use native.Mathlib.Omega.{arith}
 use lib.Dec.{ltb, eqb}
 use lib.ListN.{length}
-use borrow.Author.Tests.{lt-ltb, le-ltb, eq-eqb, ne-eqb}
+use borrow.Author.Tests.{lt-ltb, le-ltb, ne-eqb}
 use Rattle.basics.specs.Choose.{both}
 use Rattle.basics.specs.First.{first, some}
 use Rattle.basics.proofs.First.{first-same, some-same}
 use Rattle.packet.specs.Packet.{Packet, mayStart, collide}
-use Rattle.packet.specs.Table.{packetAt, timeAt, outside, meets, meetsHigher}
+use Rattle.packet.specs.Table.{timeAt, outside, meets, meetsHigher}
 use Rattle.model.specs.Packets.{hyperIn, packetsIn, packetsOf}
-use Rattle.model.specs.Refusals.{accepted, refuseIf, orElse, refusalOf}
+use Rattle.model.specs.Refusals.{accepted, refusalOf}
 use Rattle.model.specs.Answers.{refusedBy}
 use Rattle.model.specs.Fair.{Fair}
-use Rattle.model.specs.Arrays.{modelOf, packetIn}
+use Rattle.model.specs.Arrays.{modelOf}
 use Rattle.model.specs.declared.flows.Mesh.{Mesh}
-use Rattle.model.specs.declared.answers.Answer.{Answer}
 use Rattle.model.specs.declared.answers.Refusal.{Refusal}
 use Rattle.model.proofs.Numbering.{packets-length}
 use Rattle.model.proofs.Reading.{model-count, packet-in}

@@ -2,3 +2,4 @@
 pub mod Walks
 pub mod Pairs
 pub mod Cases
+pub mod Determined

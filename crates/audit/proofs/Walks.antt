@@ -1,6 +1,6 @@
 -- The tests of the two walks, as the code takes them apart: a time before the release, a time after the latest start, and
 -- two packets whose windows overlap and whose paths share a link.
-use mathlib.Core.Path.{_≡_, refl, sym, _∙_, ap, ap₂}
+use mathlib.Core.Path.{_≡_, ap}
 use mathlib.Core.Bool.{Bool, true, false, not}
 use mathlib.Core.List.{List}
 use Prim.Native.Nat.{ℕ, _+_, _≤_, _<_}
@@ -15,10 +15,10 @@ use Rattle.time.specs.Window.{overlaps}
 use Rattle.packet.specs.Packet.{Packet, mayStart, collide}
 use Rattle.packet.specs.Table.{timeAt}
 use Rattle.packet.proofs.Packet.{start-done}
-use Rattle.model.specs.Arrays.{packetIn, Ready}
+use Rattle.model.specs.Arrays.{packetIn}
 use Rattle.model.specs.declared.build.Flows.{Flows}
 use Rattle.model.specs.declared.build.Packets.{Packets}
-use Rattle.audit.specs.Scan.{strays, meetsIn, Scan, Timely}
+use Rattle.audit.specs.Scan.{strays, meetsIn, Timely}
 
 -- ---- a time and its packet's range
 

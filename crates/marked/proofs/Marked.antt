@@ -2,7 +2,9 @@
 use mathlib.Core.Path.{_≡_, refl}
 use mathlib.Core.List.{map}
 use Rattle.basics.specs.First.{firstFrom, first, some}
-use Rattle.mesh.specs.Node.{placeOf, nodeAt, apart}
+use Rattle.basics.specs.Lists.{tabulate}
+use Rattle.basics.specs.Sums.{sumOf}
+use Rattle.mesh.specs.Node.{placeOf, nodeAt, apart, distanceOf}
 use Rattle.mesh.specs.Link.{linkOf, steps, stepOf, endOf}
 use Rattle.mesh.specs.Route.{towards, leg, alongRow, alongColumn, corner, routeOf}
 use Rattle.mesh.specs.Share.{has, shares}
@@ -10,10 +12,16 @@ use Rattle.time.specs.Units.{flitsOf, occupancyOf, turnsOf, latestOf}
 use Rattle.time.specs.Window.{overlaps}
 use Rattle.time.specs.Divisor.{gcdF, gcdOf, lcmOf}
 use Rattle.time.specs.Hyper.{lcmWith, hyperOf}
-use Rattle.packet.specs.Packet.{collide}
-use Rattle.marked.specs.Examples.{Example, occupancyAt, onOneLink, examples}
+use Rattle.packet.specs.Packet.{mayStart, collide}
+use Rattle.packet.specs.Table.{packetAt, timeAt, outside, meets, meetsHigher}
+use Rattle.model.specs.Flows.{numberOf, sourceOf, targetOf, periodOf, sizeOf, dueOf, flowsIn, linksOfFlow, occupancyIn}
+use Rattle.model.specs.Packets.{periodsOf, hyperIn, turnsIn, packetsIn, packetOf, packetsFrom, packetsOf}
+use Rattle.model.specs.Refusals.{outsideOf, badMesh, badList, badNodes, badTimes, tooLong, badHyper, badPackets, refuseIf, orElse, flowRefusal, badFlow, flowsRefusal, sumsRefusal, refusalOf}
+use Rattle.model.specs.Answers.{refusedBy}
+use Rattle.audit.specs.Check.{tooShort, checkRefusal, collided, passedWith, firstMeeting, verdictOf, checkOf}
+use Rattle.marked.specs.Examples.{Example, occupancyAt, onOneLink, meshA, flowsA, inShort, examples}
 
 -- every marked example gives what the document says
 pub marked : map (λ (e : Example). e .gives) examples ≡ map (λ (e : Example). e .says) examples
-unfolding firstFrom first some has shares collide onOneLink placeOf nodeAt apart linkOf steps stepOf endOf towards leg alongRow alongColumn corner routeOf flitsOf occupancyOf turnsOf latestOf overlaps gcdF gcdOf lcmOf lcmWith hyperOf occupancyAt examples
+unfolding firstFrom first some tabulate sumOf placeOf nodeAt apart distanceOf linkOf steps stepOf endOf towards leg alongRow alongColumn corner routeOf has shares flitsOf occupancyOf turnsOf latestOf overlaps gcdF gcdOf lcmOf lcmWith hyperOf mayStart collide packetAt timeAt outside meets meetsHigher numberOf sourceOf targetOf periodOf sizeOf dueOf flowsIn linksOfFlow occupancyIn periodsOf hyperIn turnsIn packetsIn packetOf packetsFrom packetsOf outsideOf badMesh badList badNodes badTimes tooLong badHyper badPackets refuseIf orElse flowRefusal badFlow flowsRefusal sumsRefusal refusalOf refusedBy tooShort checkRefusal collided passedWith firstMeeting verdictOf checkOf occupancyAt onOneLink meshA flowsA inShort examples
 marked = refl

@@ -6,6 +6,9 @@ use Rattle.mesh.specs.Route.{routeOf}
 use Rattle.time.specs.Units.{flitsOf, occupancyOf, turnsOf, latestOf}
 use Rattle.time.specs.Hyper.{hyperOf}
 use Rattle.packet.specs.Packet.{Packet, collide}
+use Rattle.model.specs.declared.flows.Mesh.{Mesh}
+use Rattle.model.specs.declared.answers.Answer.{Answer}
+use Rattle.audit.specs.Check.{checkOf}
 
 -- an example: what the definitions give, and what the document says
 pub record Example : Type 0 where
@@ -20,7 +23,25 @@ occupancyAt r m size flit = (occupancyOf (record { 0 = r }) m (flitsOf (record {
 unfoldable pub onOneLink : ℕ → Packet
 onOneLink occupancy = record { flow = 0; turn = 0; release = 0; deadline = 0; occupancy = occupancy; path = 0 ∷ [] }
 
--- T1 to T8
+-- Case A's mesh: 2 × 2, r 6, 4-byte flits
+unfoldable pub meshA : Mesh
+meshA = record { columns = 2; rows = 2; r = 6; flit = 4 }
+
+-- Case A's flows
+unfoldable pub flowsA : List ℕ
+flowsA =
+    0 ∷ 1 ∷ 608 ∷ 588 ∷ 608
+    ∷ 0 ∷ 3 ∷ 608 ∷ 1588 ∷ 608
+    ∷ 2 ∷ 3 ∷ 608 ∷ 716 ∷ 608
+    ∷ 2 ∷ 1 ∷ 608 ∷ 948 ∷ 608
+    ∷ 3 ∷ 0 ∷ 608 ∷ 436 ∷ 608
+    ∷ []
+
+-- an answer's number, place and other
+unfoldable pub inShort : Answer → List ℕ
+inShort a = a .number ∷ a .place ∷ a .other ∷ []
+
+-- T1 to T8, T11 and T12
 unfoldable pub examples : List Example
 examples =
     -- T1: 2 × 2, 0 to 3
@@ -39,4 +60,8 @@ examples =
     ∷ record { gives = asNumber (collide (onOneLink 416) 0 (onOneLink 192) 416) ∷ []; says = 0 ∷ [] }
     -- T8: the second at 415: collision
     ∷ record { gives = asNumber (collide (onOneLink 416) 0 (onOneLink 192) 415) ∷ []; says = 1 ∷ [] }
+    -- T11: Case A's table, packet 2 at 417
+    ∷ record { gives = inShort (checkOf meshA flowsA (416 ∷ 0 ∷ 417 ∷ 0 ∷ 0 ∷ [])); says = 11 ∷ 2 ∷ 0 ∷ [] }
+    -- T12: packet 2 at 415
+    ∷ record { gives = inShort (checkOf meshA flowsA (416 ∷ 0 ∷ 415 ∷ 0 ∷ 0 ∷ [])); says = 12 ∷ 1 ∷ 2 ∷ [] }
     ∷ []

@@ -1,8 +1,8 @@
 -- The route as it is built: what each of its two walks asks, and what the path is after each stage.
 -- Over the two places and the results of the calls, so that the proof of `route` only names them.
-use mathlib.Core.Path.{_≡_, refl, sym, _∙_, ap, ap₂}
+use mathlib.Core.Path.{_≡_, _∙_, ap, ap₂}
 use mathlib.Core.List.{List, [], _∷_, _++_, append-assoc}
-use Prim.Native.Nat.{ℕ, suc, _+_, _≤_, _<_}
+use Prim.Native.Nat.{ℕ, suc, _+_, _<_}
 use native.Mathlib.Omega.{arith}
 use lib.ListN.{length, length-append}
 use Rattle.mesh.specs.Node.{placeOf, apart}

@@ -1,7 +1,7 @@
 -- Laws of links in common: a path has a link exactly where one of its places holds it, and two paths share a link exactly
 -- where some link is on both. Then the same read off two paths by value, as the code compares them.
 use mathlib.Core.Path.{_≡_, refl, sym, _∙_, ap, subst}
-use mathlib.Core.Bool.{Bool, true, false}
+use mathlib.Core.Bool.{true, false}
 use mathlib.Core.List.{List}
 use Prim.Native.Nat.{ℕ, _≤_, _<_}
 use native.Mathlib.Omega.{arith}

@@ -3,8 +3,8 @@ use mathlib.Core.Path.{_≡_, sym, _∙_, ap, ap₂, subst}
 use Prim.Native.Nat.{ℕ, suc, _+_, _-_, _≤_, _<_}
 use native.Mathlib.Omega.{arith}
 use Rattle.mesh.specs.Node.{nodeAt}
-use Rattle.mesh.specs.Link.{linkOf, stepOf, endOf, Inner}
-use Rattle.mesh.specs.Walk.{pushed, walked, Inside, Stays}
+use Rattle.mesh.specs.Link.{linkOf, endOf, Inner}
+use Rattle.mesh.specs.Walk.{pushed, walked, Stays}
 use Rattle.mesh.specs.declared.nodes.Place.{Place}
 use Rattle.mesh.specs.declared.paths.Path.{Path}
 

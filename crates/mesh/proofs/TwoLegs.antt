@@ -2,19 +2,17 @@
 -- Every law of a path is proved here, over the two legs: a routing is shown to be such a path, and has the laws.
 -- In order: how many links; each link ends where the next begins; every link exists. That none stands twice is in NoneTwice.antt.
 use mathlib.Core.Path.{_≡_, refl, sym, _∙_, ap, subst}
-use mathlib.Core.Bool.{Bool, true}
+use mathlib.Core.Bool.{true}
 use mathlib.Core.List.{List, [], _∷_, _++_}
-use Prim.Native.Nat.{ℕ, zero, suc, _+_, _*_, _-_, _≤_, _<_}
+use Prim.Native.Nat.{ℕ, zero, suc, _+_, _*_, _≤_, _<_}
 use native.Mathlib.Nat.{mul-comm}
 use native.Mathlib.Omega.{arith}
 use lib.Arith.{digits-lt}
-use lib.Dec.{ltb, leb}
-use lib.ListN.{length, getD, length-append}
+use lib.ListN.{length, length-append}
 use borrow.Author.Tests.{lt-ltb, le-leb}
-use Rattle.basics.specs.Choose.{both}
 use Rattle.basics.proofs.Each.{Each, each-append}
 use Rattle.mesh.specs.Node.{placeOf, nodeAt}
-use Rattle.mesh.specs.Link.{linkOf, nodeOf, kindOf, steps, stepOf, endOf, endNode, stays, exists}
+use Rattle.mesh.specs.Link.{linkOf, nodeOf, steps, stepOf, endOf, endNode, stays, exists}
 use Rattle.mesh.specs.Route.{leg, Leads}
 use Rattle.mesh.specs.Walk.{Inside, Stays}
 use Rattle.mesh.specs.declared.nodes.Place.{Place}

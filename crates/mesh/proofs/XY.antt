@@ -15,12 +15,12 @@ use Rattle.basics.specs.Choose.{choose}
 use Rattle.basics.proofs.Each.{Each, Once, each-at, once-at}
 use Rattle.mesh.specs.Node.{placeOf, apart, distanceOf}
 use Rattle.mesh.specs.Link.{linkOf, steps, stepOf, endOf, exists}
-use Rattle.mesh.specs.Route.{towards, leg, alongRow, alongColumn, corner, routeOf, Leads}
-use Rattle.mesh.specs.Walk.{Inside, Stays}
+use Rattle.mesh.specs.Route.{towards, alongRow, alongColumn, corner, routeOf, Leads}
+use Rattle.mesh.specs.Walk.{Inside}
 use Rattle.mesh.specs.declared.nodes.Place.{Place}
 use Rattle.mesh.proofs.Bounds.{apart-lt}
 use Rattle.mesh.proofs.Legs.{row-stays, column-stays}
-use Rattle.mesh.proofs.TwoLegs.{Moves, TwoLegs, ended, linksOver, long, leads, all-exist}
+use Rattle.mesh.proofs.TwoLegs.{TwoLegs, ended, linksOver, long, leads, all-exist}
 use Rattle.mesh.proofs.NoneTwice.{none-twice}
 
 -- two nodes of a mesh

@@ -1,7 +1,7 @@
 -- Paths: XY from source to target, and a path as an array of 32 link numbers beside its length.
 use mathlib.Core.Path.{_≡_}
 use mathlib.Core.List.{List, [], _∷_, _++_}
-use Prim.Native.Nat.{ℕ, zero, suc, _+_, _*_, _-_, _<_, _≤_}
+use Prim.Native.Nat.{ℕ, zero, suc, _+_, _*_, _<_, _≤_}
 use lib.Dec.{leb}
 use lib.ListN.{length, take}
 use Rattle.basics.specs.Lists.{padded}

@@ -2,7 +2,6 @@
 use crate::paths::Path;
 ghost use mathlib.Core.Path.{_≡_};
 ghost use Prim.Native.Nat.{_≤_};
-ghost use lib.ListN.{length};
 ghost use Rattle.mesh.specs.Route.{linksOf};
 ghost use Rattle.mesh.specs.Share.{shares};
 

@@ -1,23 +1,21 @@
 -- The model as it is built, flow after flow: the flows up to a flow, and the packets of the flows before it.
-use mathlib.Core.Path.{_≡_, refl, sym, _∙_, ap, ap₂, subst}
-use mathlib.Core.List.{List, [], _++_}
-use Prim.Native.Nat.{ℕ, zero, suc, _+_, _*_, _/_, _^_, _≤_, _<_}
+use mathlib.Core.Path.{_≡_, sym, _∙_, ap, ap₂, subst}
+use mathlib.Core.List.{List, []}
+use Prim.Native.Nat.{ℕ, _+_, _*_, _/_, _^_, _≤_, _<_}
 use native.Mathlib.Numerals.{add-one}
 use native.Mathlib.Omega.{arith}
 use lib.ListN.{length}
-use Rattle.basics.specs.Lists.{tabulate, padded}
+use Rattle.basics.specs.Lists.{tabulate}
 use Rattle.basics.specs.Sums.{sumOf}
 use Rattle.basics.proofs.Sums.{sum-part}
 use Rattle.time.specs.Units.{turnsOf}
-use Rattle.packet.specs.Packet.{Packet}
 use Rattle.model.specs.Flows.{periodOf, flowsIn}
-use Rattle.model.specs.Packets.{hyperIn, turnsIn, packetsIn, packetOf, packetsFrom, packetsOf}
+use Rattle.model.specs.Packets.{hyperIn, turnsIn, packetsIn, packetsFrom, packetsOf}
 use Rattle.model.specs.Fair.{Fair, Next, Room}
 use Rattle.model.specs.Arrays.{noFlows, flowsUpTo, arraysOf, withTurns, modelOf}
 use Rattle.model.specs.declared.flows.Mesh.{Mesh}
 use Rattle.model.specs.declared.build.Flows.{Flows}
 use Rattle.model.specs.declared.build.Packets.{Packets}
-use Rattle.model.specs.declared.build.Model.{Model}
 use Rattle.model.proofs.Numbering.{packets-before, packets-grow}
 use Rattle.model.proofs.InTime.{fair-timed, hyper-whole}
 use Rattle.model.proofs.Filling.{turns-more}

@@ -1,23 +1,21 @@
 -- Laws of the sums: the list of all periods as an array that is filled from the front, and as what the hyper-period asks; H as it is
 -- found; and how many packets there are, with a bound that keeps the sum in 32 bits.
-use mathlib.Core.Path.{_≡_, sym, _∙_, ap, subst}
-use mathlib.Core.List.{List, [], _∷_, _++_}
-use Prim.Native.Nat.{ℕ, zero, suc, _+_, _*_, _≤_, _<_}
+use mathlib.Core.Path.{_≡_, subst}
+use mathlib.Core.List.{List}
+use Prim.Native.Nat.{ℕ, zero, suc, _*_, _≤_}
 use native.Mathlib.Nat.{div-le-self, lt-of-not-le}
-use native.Mathlib.Numerals.{add-one}
 use native.Mathlib.Decide.{decLe}
 use native.Mathlib.Omega.{arith}
-use lib.ListN.{length, getD, set, take}
-use Rattle.basics.specs.Lists.{tabulate, padded}
+use lib.ListN.{take}
+use Rattle.basics.specs.Lists.{padded}
 use Rattle.basics.specs.Sums.{sumOf}
-use Rattle.basics.proofs.Lists.{tabulate-length, tabulate-at, tabulate-snoc, padded-push, padded-take}
+use Rattle.basics.proofs.Lists.{tabulate-length, padded-take}
 use Rattle.time.specs.Units.{turnsOf}
-use Rattle.time.specs.Hyper.{most, hyperOf, hyperWithin, Periods}
+use Rattle.time.specs.Hyper.{most, hyperOf, hyperWithin}
 use Rattle.time.specs.declared.hyper.Hyper.the-variants.{Is}
 use Rattle.time.proofs.HyperPeriod.{within-is, within-above}
 use Rattle.model.specs.Flows.{periodOf, flowsIn}
 use Rattle.model.specs.Packets.{periodsOf, hyperIn, turnsIn}
-use Rattle.model.specs.Fair.{Timed}
 
 -- ---- all periods
 

@@ -1,16 +1,15 @@
 -- The packets read off the arrays are the packets of the model, and their numbers are small.
-use mathlib.Core.Path.{_≡_, refl, sym, _∙_, ap, ap₂, subst}
+use mathlib.Core.Path.{_≡_, sym, _∙_, ap, ap₂, subst}
 use mathlib.Core.List.{List}
-use Prim.Native.Nat.{ℕ, _+_, _*_, _/_, _≤_, _<_}
+use Prim.Native.Nat.{ℕ, _+_, _/_, _<_}
 use native.Mathlib.Nat.{mul-div-cancel}
 use native.Mathlib.Omega.{arith}
 use lib.ListN.{length, getD}
 use Rattle.mesh.specs.Route.{pathOf, linksOf}
 use Rattle.mesh.specs.declared.paths.Path.{Path}
-use Rattle.packet.specs.Packet.{Packet}
 use Rattle.packet.specs.Table.{packetAt}
 use Rattle.packet.proofs.Packet.{packet-same}
-use Rattle.model.specs.Flows.{periodOf, dueOf, flowsIn, linksOfFlow, occupancyIn}
+use Rattle.model.specs.Flows.{periodOf, flowsIn}
 use Rattle.model.specs.Packets.{packetsIn, packetsOf}
 use Rattle.model.specs.Fair.{Fair}
 use Rattle.model.specs.Arrays.{flowsUpTo, arraysOf, modelOf, noPath, packetIn, Ready}

@@ -1,5 +1,4 @@
 -- The answer's eight fields.
-use Prim.Native.Nat.{ℕ}
 use Rattle.model.specs.declared.answers.Answer.{Answer}
 use Rattle.model.specs.declared.answers.Refusal.{Refusal}
 

@@ -8,7 +8,6 @@ use mesh::route;
 use time::Hyper;
 ghost use mathlib.Core.Path.{_≡_};
 ghost use Prim.Native.Nat.{_+_, _≤_, _<_};
-ghost use Rattle.model.specs.Flows.{flowsIn};
 ghost use Rattle.model.specs.Fair.{Fair, Next, Room, Timed};
 ghost use mathlib.Core.List.{[]};
 ghost use Rattle.model.specs.Packets.{hyperIn};

@@ -1,8 +1,8 @@
 -- Demand 3 for the check itself: of a model that is not refused and a table long enough for it.
 -- In order: number 0 is that the table passes; then the equivalence with replay, what receivers see, and that a refusal 11 or 12
 -- names a fault that replay over one hyper-period shows.
-use mathlib.Core.Path.{_≡_, refl, sym, _∙_, ap, subst}
-use mathlib.Core.Bool.{Bool, true, false, not}
+use mathlib.Core.Path.{_≡_, sym, _∙_, ap}
+use mathlib.Core.Bool.{true, not}
 use mathlib.Core.Logic.{_↔_}
 use mathlib.Core.List.{List}
 use Prim.Native.Nat.{ℕ, _≤_, _<_}
@@ -17,14 +17,13 @@ use Rattle.basics.proofs.First.{first-passes, some-first}
 use Rattle.packet.specs.Packet.{Packet}
 use Rattle.packet.specs.Table.{outside, meets, meetsHigher, passes}
 use Rattle.model.specs.Flows.{periodOf, flowsIn}
-use Rattle.model.specs.Packets.{hyperIn, turnsIn, packetsIn, packetsOf}
+use Rattle.model.specs.Packets.{hyperIn, turnsIn, packetsOf}
 use Rattle.model.specs.Refusals.{accepted}
 use Rattle.model.specs.Answers.{refusedBy}
 use Rattle.model.specs.Fair.{Fair}
 use Rattle.model.specs.declared.flows.Mesh.{Mesh}
 use Rattle.model.specs.declared.answers.Answer.{Answer}
 use Rattle.model.proofs.Accepted.{accepted-fair}
-use Rattle.model.proofs.Numbering.{packets-length}
 use Rattle.audit.specs.Check.{collided, passedWith, firstMeeting, verdictOf, checkOf}
 use Rattle.audit.proofs.Cases.{check-long, verdict-11, verdict-12, verdict-0}
 use Rattle.replay.specs.Replay.{Stray, Clash}

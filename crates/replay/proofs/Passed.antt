@@ -3,8 +3,8 @@
 -- table replays clean over any number of hyper-periods; `replays-passed`, a table that replays clean over one number of them, from
 -- one up, passes; and the two as one theorem, `check-is-replay`, for each single number, and `check-is-every-replay`, in the
 -- owner's words, for all of them.
-use mathlib.Core.Path.{_≡_, refl, sym, _∙_}
-use mathlib.Core.Bool.{Bool, true, false, false≢true}
+use mathlib.Core.Path.{_≡_, sym, _∙_}
+use mathlib.Core.Bool.{true, false≢true}
 use mathlib.Core.Logic.{_↔_, ⊎-elim}
 use mathlib.Core.List.{List}
 use Prim.Native.Nat.{ℕ, _+_, _*_, _-_, _≤_, _<_}

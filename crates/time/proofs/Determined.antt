@@ -5,7 +5,7 @@ use mathlib.Core.Path.{_≡_, sym, _∙_, ap}
 use contract.Lifetimes.{Lfts}
 use denote.Ref.{now}
 use denote.Triple.Clauses.{AtExit}
-use borrow.Fn.Kinds.{PK, RK, Out, Dens, resT, endedOf}
+use borrow.Fn.Kinds.{Dens, resT, endedOf}
 use Rattle.basics.proofs.Determined.{Determined}
 use Rattle.time.specs.Hyper.{hyperWithin}
 use Rattle.time.proofs.units.flits_of.Reads as flits-of

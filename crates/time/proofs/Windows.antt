@@ -1,8 +1,8 @@
 -- Laws of windows, over start and length.
 -- In order: the cycles that a window holds; then overlap: exactly where two windows of positive length hold a common cycle,
 -- never where one ends at or before the other's start, and the same from either side.
-use mathlib.Core.Path.{_≡_, refl}
-use mathlib.Core.Bool.{Bool, true, false, false≢true}
+use mathlib.Core.Path.{_≡_}
+use mathlib.Core.Bool.{true, false}
 use Prim.Native.Nat.{ℕ, _+_, _-_, _≤_, _<_, max}
 use native.Mathlib.Omega.{arith}
 use lib.Dec.{leb, ltb}

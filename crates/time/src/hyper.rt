@@ -1,9 +1,8 @@
 // The hyper-period: the greatest common divisor by recursion, folded to the least common multiple of all periods.
 ghost use mathlib.Core.Path.{_≡_};
-ghost use Prim.Native.Nat.{ℕ, _<_, _≤_};
-ghost use lib.ListN.{length, getD};
+ghost use Prim.Native.Nat.{_<_};
 ghost use Rattle.time.specs.Divisor.{gcdOf};
-ghost use Rattle.time.specs.Hyper.{most, hyperWithin, Periods};
+ghost use Rattle.time.specs.Hyper.{hyperWithin, Periods};
 
 // The largest hyper-period that is not refused.
 pub const MOST: u32 = 16_777_216;

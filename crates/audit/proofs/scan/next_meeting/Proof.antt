@@ -1,7 +1,6 @@
 -- `next_meeting` returns at the first higher packet whose window overlaps and whose path shares a link.
 use mathlib.Core.Path.{sym, _∙_}
 use mathlib.Core.Logic.{⊎-elim}
-use lib.ListN.{getD}
 use borrow.Author.Count.{below-more}
 use Rattle.basics.proofs.First.{first-is, first-none}
 use Rattle.packet.specs.Table.{timeAt}

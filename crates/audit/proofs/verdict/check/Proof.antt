@@ -3,7 +3,7 @@ use Rattle.model.specs.declared.answers.Refusal.{Refusal}
 use Rattle.model.specs.declared.build.Model.{Model}
 use Rattle.model.specs.Arrays.{Ready}
 use Rattle.audit.specs.Scan.{verdictIn}
-use mathlib.Core.Path.{_≡_, sym, _∙_, ap, subst}
+use mathlib.Core.Path.{sym, _∙_, ap, subst}
 use Rattle.model.specs.Refusals.{accepted}
 use Rattle.model.specs.Answers.{refusedBy}
 use Rattle.model.proofs.Accepted.{accepted-fair}

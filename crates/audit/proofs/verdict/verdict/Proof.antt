@@ -1,12 +1,11 @@
 -- `verdict` takes the cases of its definition in order; what one walk leaves is what the next asks.
-use mathlib.Core.Path.{_≡_, sym, _∙_, ap}
+use mathlib.Core.Path.{sym, _∙_, ap}
 use Prim.Native.Nat.{ℕ}
 use native.Mathlib.Omega.{arith}
 use lib.ListN.{length}
 use Rattle.basics.specs.First.{first}
 use Rattle.basics.proofs.First.{first-least}
 use Rattle.model.specs.Answers.{refusedBy}
-use Rattle.model.specs.declared.answers.Refusal.{Refusal}
 use Rattle.audit.specs.Check.{collided}
 use Rattle.audit.specs.Scan.{strays, firstPair, verdictIn}
 use Rattle.audit.specs.declared.scan.Pair.{Pair}

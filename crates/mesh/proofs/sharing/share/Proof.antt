@@ -2,7 +2,6 @@
 use borrow.Author.Count.{below-none, below-more}
 use borrow.Author.Tests.{ne-eqb}
 use Rattle.mesh.proofs.Common.{Whole, shares-at, has-array, has-none, shares-none}
-use Rattle.mesh.specs.declared.paths.Path.{Path}
 use mathlib.Core.Path.{sym, refl}
 use native.Mathlib.Omega.{arith}
 use Prim.Native.Nat.{ℕ, _-_, _≤_, _<_}
@@ -12,7 +11,7 @@ use lib.ListN.{getD}
 use lib.Dec.{eqb}
 use borrow.Author.Count.{below-more}
 use Rattle.mesh.specs.Route.{linksOf}
-use Rattle.mesh.specs.Share.{has, shares}
+use Rattle.mesh.specs.Share.{has}
 use borrow.Author.Needs.{needs}
 use Rattle.mesh.proofs.sharing.share.Statement.{statement}
 use Rattle.mesh.proofs.sharing.share.Tie as tie

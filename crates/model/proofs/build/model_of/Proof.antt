@@ -1,5 +1,4 @@
 -- `model_of` puts one flow and its packets behind those before it in each turn.
-use mathlib.Core.Path.{_≡_, sym}
 use native.Mathlib.Omega.{arith}
 use Prim.Native.Nat.{_-_}
 use Rattle.model.specs.Flows.{periodOf, flowsIn}
