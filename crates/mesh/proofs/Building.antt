@@ -12,7 +12,7 @@ use Rattle.mesh.specs.Walk.{pushed, walked, Inside, Walk}
 use Rattle.mesh.specs.declared.nodes.Place.{Place}
 use Rattle.mesh.specs.declared.paths.Path.{Path}
 use Rattle.mesh.proofs.Bounds.{place-inside, apart-inside}
-use Rattle.mesh.proofs.Legs.{leg-length, row-stays, column-stays, towards-lt, path-len, grown, gone}
+use Rattle.mesh.proofs.Legs.{leg-length, row-stays, column-stays, towards-near, path-len, grown, gone}
 
 module _ (columns source target : ℕ) (ends : Ends columns source target) (a b : Place) (ea : a ≡ placeOf columns source) (eb : b ≡ placeOf columns target) where
   -- the source's place is inside
@@ -35,7 +35,7 @@ module _ (columns source target : ℕ) (ends : Ends columns source target) (a b 
       let far = apart-inside columns a b (ends .few-columns) a-inside b-inside in
       record {
         few-columns = ends .few-columns;
-        kind-in = rw ek (towards-lt 2 (a .column) (b .column) (omega arith));
+        kind-in = omega (arith, ek, towards-near 2 (a .column) (b .column));
         room = omega (arith, path-len p (l ∷ []) e, ends .few-columns);
         inside = rw (ek, en) (row-stays columns 16 a b a-inside b-inside);
       }
@@ -61,7 +61,7 @@ module _ (columns source target : ℕ) (ends : Ends columns source target) (a b 
       let far = apart-inside columns a b (ends .few-columns) a-inside b-inside in
       record {
         few-columns = ends .few-columns;
-        kind-in = rw ek (towards-lt 4 (a .row) (b .row) (omega arith));
+        kind-in = omega (arith, ek, towards-near 4 (a .row) (b .row));
         room = omega (arith, path-len p (l ∷ alongRow columns a b) e, row-long l, ends .few-columns);
         inside = rw (ek, en) (column-stays columns 16 (corner a b) b corner-inside b-inside);
       }

@@ -12,7 +12,7 @@ use Rattle.basics.specs.Choose.{choose}
 use Rattle.basics.specs.Lists.{padded}
 use Rattle.basics.proofs.Lists.{padded-push}
 use lib.ListN.{length, replicate, length-append}
-use borrow.Author.Tests.{leb-true}
+use borrow.Author.Tests.{leb-true, leb-false}
 use Rattle.mesh.specs.Node.{nodeAt, apart}
 use Rattle.mesh.specs.Link.{linkOf, steps, stepOf, endOf}
 use Rattle.mesh.specs.Route.{towards, leg, pathOf}
@@ -67,40 +67,38 @@ straight columns rows kind (suc n) at w o e s =
       straight columns rows kind n (endOf kind at) (omega arith) (omega arith) (omega arith) (omega arith),
     )
 
+-- what holds of the kind that leads from a towards b and of how far they are apart, from what holds upwards and downwards
+pub either-way : (P : ℕ → ℕ → Type 0) (kind a b : ℕ) → (a ≤ b → P kind (b - a)) → (b < a → P (kind + 1) (a - b)) → P (towards kind a b) (apart a b)
+unfolding towards apart
+either-way P kind a b up down = go (leb a b) refl
+  where
+    go : (t : Bool) → leb a b ≡ t → P (choose t kind (kind + 1)) (choose t (b - a) (a - b))
+    go true e = up (leb-true a b e)
+    go false e = down (leb-false a b e)
+
 -- the leg along the row to another column stays inside
 pub row-stays : (columns rows : ℕ) (p q : Place) → Inside columns rows p → Inside columns rows q
     → Stays columns rows (towards 2 (p .column) (q .column)) (apart (p .column) (q .column)) p
-unfolding towards apart steps stepOf
-row-stays columns rows p q i j = go (leb (p .column) (q .column)) refl
-  where
-    go : (t : Bool) → leb (p .column) (q .column) ≡ t → Stays columns rows (towards 2 (p .column) (q .column)) (apart (p .column) (q .column)) p
-    go true e =
-        let h = leb-true (p .column) (q .column) e in
-        rw (e, towards, apart) (straight columns rows 2 (q .column - p .column) p (omega arith) (omega arith) (omega arith) (omega arith))
-    go false e = rw (e, towards, apart) (straight columns rows 3 (p .column - q .column) p (omega arith) (omega arith) (omega arith) (omega arith))
+unfolding steps stepOf
+row-stays columns rows p q i j =
+    either-way (λ (k n : ℕ). Stays columns rows k n p) 2 (p .column) (q .column)
+    (λ h. straight columns rows 2 (q .column - p .column) p (omega arith) (omega arith) (omega arith) (omega arith))
+    (λ h. straight columns rows 3 (p .column - q .column) p (omega arith) (omega arith) (omega arith) (omega arith))
 
 -- the leg along the column to another row stays inside
 pub column-stays : (columns rows : ℕ) (p q : Place) → Inside columns rows p → Inside columns rows q
     → Stays columns rows (towards 4 (p .row) (q .row)) (apart (p .row) (q .row)) p
-unfolding towards apart steps stepOf
-column-stays columns rows p q i j = go (leb (p .row) (q .row)) refl
-  where
-    go : (t : Bool) → leb (p .row) (q .row) ≡ t → Stays columns rows (towards 4 (p .row) (q .row)) (apart (p .row) (q .row)) p
-    go true e =
-        let h = leb-true (p .row) (q .row) e in
-        rw (e, towards, apart) (straight columns rows 4 (q .row - p .row) p (omega arith) (omega arith) (omega arith) (omega arith))
-    go false e = rw (e, towards, apart) (straight columns rows 5 (p .row - q .row) p (omega arith) (omega arith) (omega arith) (omega arith))
+unfolding steps stepOf
+column-stays columns rows p q i j =
+    either-way (λ (k n : ℕ). Stays columns rows k n p) 4 (p .row) (q .row)
+    (λ h. straight columns rows 4 (q .row - p .row) p (omega arith) (omega arith) (omega arith) (omega arith))
+    (λ h. straight columns rows 5 (p .row - q .row) p (omega arith) (omega arith) (omega arith) (omega arith))
 
 -- ---- the stages of a route
 
 -- the kind that leads towards a column or a row is that kind or the next
-pub towards-lt : (kind a b : ℕ) → kind < 5 → towards kind a b < 6
-unfolding towards
-towards-lt kind a b h = go (leb a b)
-  where
-    go : (t : Bool) → choose t kind (kind + 1) < 6
-    go true = omega arith
-    go false = omega arith
+pub towards-near : (kind a b : ℕ) → (kind ≤ towards kind a b) × (towards kind a b ≤ kind + 1)
+towards-near kind a b = either-way (λ (k n : ℕ). (kind ≤ k) × (k ≤ kind + 1)) kind a b (λ h. omega arith) (λ h. omega arith)
 
 -- a path says how many links it lists
 pub path-len : (p : Path) (ls : List ℕ) → p ≡ pathOf ls → p .len ≡ length ls

@@ -8,6 +8,10 @@ use Rattle.mesh.specs.Node.{placeOf, nodeAt}
 use Rattle.mesh.specs.Link.{linkOf, nodeOf, kindOf, steps, stepOf, endOf, endNode}
 use Rattle.mesh.specs.declared.nodes.Place.{Place}
 
+-- two places with the same column and the same row are the same
+pub at-place : {c c′ r r′ : ℕ} → c ≡ c′ → r ≡ r′ → _≡_ {A = Place} (record { column = c; row = r }) (record { column = c′; row = r′ })
+at-place ec er = ap₂ {C = Place} (λ (c r : ℕ). record { column = c; row = r }) ec er
+
 -- a link begins at its node
 pub node-link : (node kind : ℕ) → kind < 6 → nodeOf (linkOf node kind) ≡ node
 unfolding nodeOf linkOf
@@ -27,7 +31,7 @@ node-place columns node = div-add-mod' node columns
 pub place-node : (columns : ℕ) (at : Place) → at .column < columns → placeOf columns (nodeAt columns at) ≡ at
 unfolding nodeAt placeOf
 place-node columns at h =
-    ap₂ {C = Place} (λ (c r : ℕ). record { column = c; row = r }) (digits-mod (at .row) h) (digits-div (at .row) h)
+    at-place (digits-mod (at .row) h) (digits-div (at .row) h)
 
 -- a link ends at the end of its kind's step from its node's place
 pub end-number : (columns node kind : ℕ) → kind < 6 → endNode columns (linkOf node kind) ≡ nodeAt columns (endOf kind (placeOf columns node))
@@ -47,6 +51,6 @@ unmoved x = omega arith
 -- the two local kinds end where they begin
 pub still-end : (kind : ℕ) (at : Place) → kind < 2 → endOf kind at ≡ at
 unfolding steps stepOf endOf
-still-end zero at h = ap₂ {C = Place} (λ (c r : ℕ). record { column = c; row = r }) (unmoved (at .column)) (unmoved (at .row))
-still-end (suc zero) at h = ap₂ {C = Place} (λ (c r : ℕ). record { column = c; row = r }) (unmoved (at .column)) (unmoved (at .row))
+still-end zero at h = at-place (unmoved (at .column)) (unmoved (at .row))
+still-end (suc zero) at h = at-place (unmoved (at .column)) (unmoved (at .row))
 still-end (suc (suc kind)) at h = absurd (omega arith)

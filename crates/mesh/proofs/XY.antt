@@ -1,17 +1,14 @@
 -- The XY path as a path of two legs, and with it the laws of a path that a reader checks it by:
 -- it begins at L-source, ends at target-L, has m + 2 links and never more than 32, each link ends where the next begins,
 -- every link exists in the mesh, and no link stands twice.
-use mathlib.Core.Path.{_≡_, refl, sym, _∙_, ap, ap₂, subst}
-use mathlib.Core.Bool.{Bool, true, false}
+use mathlib.Core.Path.{_≡_, refl, sym, _∙_, ap, subst}
+use mathlib.Core.Bool.{true}
 use mathlib.Core.List.{List, [], _∷_, _++_, append-assoc}
 use Prim.Native.Nat.{ℕ, zero, suc, _+_, _*_, _-_, _/_, _%_, _≤_, _<_}
 use native.Mathlib.Nat.{zero-mul, suc-mul, mod-lt, div-lt-iff-lt-mul, mul-comm}
 use native.Mathlib.Omega.{arith}
-use lib.Dec.{leb}
 use lib.ListN.{length, getD, length-append}
 use lib.Seq.{getD-at}
-use borrow.Author.Tests.{leb-true, leb-false}
-use Rattle.basics.specs.Choose.{choose}
 use Rattle.basics.proofs.Each.{Each, Once, each-at, once-at}
 use Rattle.mesh.specs.Node.{placeOf, apart, distanceOf}
 use Rattle.mesh.specs.Link.{linkOf, steps, stepOf, endOf, exists}
@@ -19,7 +16,8 @@ use Rattle.mesh.specs.Route.{towards, alongRow, alongColumn, corner, rou
 use Rattle.mesh.specs.Walk.{Inside}
 use Rattle.mesh.specs.declared.nodes.Place.{Place}
 use Rattle.mesh.proofs.Bounds.{apart-lt}
-use Rattle.mesh.proofs.Legs.{row-stays, column-stays}
+use Rattle.mesh.proofs.Legs.{either-way, row-stays, column-stays, towards-near}
+use Rattle.mesh.proofs.Numbers.{at-place}
 use Rattle.mesh.proofs.TwoLegs.{TwoLegs, ended, linksOver, long, leads, all-exist}
 use Rattle.mesh.proofs.NoneTwice.{none-twice}
 
@@ -44,7 +42,7 @@ ended-at : (kind n : ℕ) (at : Place) → n * stepOf kind .west ≤ at .column 
     }
 unfolding ended endOf
 ended-at kind zero at w o =
-    ap₂ {C = Place} (λ (c r : ℕ). record { column = c; row = r }) (unmoved (at .column) (stepOf kind .east) (stepOf kind .west)) (unmoved (at .row) (stepOf kind .south) (stepOf kind .north))
+    at-place (unmoved (at .column) (stepOf kind .east) (stepOf kind .west)) (unmoved (at .row) (stepOf kind .south) (stepOf kind .north))
 ended-at kind (suc n) at w o =
     let more : (x : ℕ) → suc n * x ≡ n * x + x = suc-mul n in
     let west = more (stepOf kind .west) in
@@ -52,42 +50,23 @@ ended-at kind (suc n) at w o =
     let east = more (stepOf kind .east) in
     let south = more (stepOf kind .south) in
     ended-at kind n (endOf kind at) (omega arith) (omega arith)
-    ∙ ap₂ {C = Place} (λ (c r : ℕ). record { column = c; row = r }) (omega arith) (omega arith)
+    ∙ at-place (omega arith) (omega arith)
 
 -- the leg along the row ends at the corner
 row-ends : (p q : Place) → ended (towards 2 (p .column) (q .column)) (apart (p .column) (q .column)) p ≡ corner p q
-unfolding towards apart corner steps stepOf
-row-ends p q = go (leb (p .column) (q .column)) refl
-  where
-    go : (t : Bool) → leb (p .column) (q .column) ≡ t → ended (towards 2 (p .column) (q .column)) (apart (p .column) (q .column)) p ≡ corner p q
-    go true e =
-        let h = leb-true (p .column) (q .column) e in
-        rw (e, towards, apart)
-        (ended-at 2 (q .column - p .column) p (omega arith) (omega arith)
-        ∙ ap₂ {C = Place} (λ (c r : ℕ). record { column = c; row = r }) (omega arith) (omega arith))
-    go false e =
-        let h = leb-false (p .column) (q .column) e in
-        rw (e, towards, apart)
-        (ended-at 3 (p .column - q .column) p (omega arith) (omega arith)
-        ∙ ap₂ {C = Place} (λ (c r : ℕ). record { column = c; row = r }) (omega arith) (omega arith))
+unfolding corner steps stepOf
+row-ends p q =
+    either-way (λ (k n : ℕ). ended k n p ≡ corner p q) 2 (p .column) (q .column)
+    (λ h. ended-at 2 (q .column - p .column) p (omega arith) (omega arith) ∙ at-place (omega arith) (omega arith))
+    (λ h. ended-at 3 (p .column - q .column) p (omega arith) (omega arith) ∙ at-place (omega arith) (omega arith))
 
 -- the leg along the column ends in the other's row
 column-ends : (p q : Place) → ended (towards 4 (p .row) (q .row)) (apart (p .row) (q .row)) p ≡ record { column = p .column; row = q .row }
-unfolding towards apart steps stepOf
-column-ends p q = go (leb (p .row) (q .row)) refl
-  where
-    go : (t : Bool) → leb (p .row) (q .row) ≡ t
-        → ended (towards 4 (p .row) (q .row)) (apart (p .row) (q .row)) p ≡ record { column = p .column; row = q .row }
-    go true e =
-        let h = leb-true (p .row) (q .row) e in
-        rw (e, towards, apart)
-        (ended-at 4 (q .row - p .row) p (omega arith) (omega arith)
-        ∙ ap₂ {C = Place} (λ (c r : ℕ). record { column = c; row = r }) (omega arith) (omega arith))
-    go false e =
-        let h = leb-false (p .row) (q .row) e in
-        rw (e, towards, apart)
-        (ended-at 5 (p .row - q .row) p (omega arith) (omega arith)
-        ∙ ap₂ {C = Place} (λ (c r : ℕ). record { column = c; row = r }) (omega arith) (omega arith))
+unfolding steps stepOf
+column-ends p q =
+    either-way (λ (k n : ℕ). ended k n p ≡ record { column = p .column; row = q .row }) 4 (p .row) (q .row)
+    (λ h. ended-at 4 (q .row - p .row) p (omega arith) (omega arith) ∙ at-place (omega arith) (omega arith))
+    (λ h. ended-at 5 (p .row - q .row) p (omega arith) (omega arith) ∙ at-place (omega arith) (omega arith))
 
 -- ---- the XY path is a path of two legs
 
@@ -98,15 +77,6 @@ node-inside columns rows node h k = record {
   column-in = mod-lt node h;
   row-in = div-lt-iff-lt-mul h .1 (subst (λ (n : ℕ). node < n) (mul-comm columns rows) k);
 }
-
--- the kind that leads towards a column or a row is that kind or the next
-towards-near : (kind a b : ℕ) → (kind ≤ towards kind a b) × (towards kind a b ≤ kind + 1)
-unfolding towards
-towards-near kind a b = go (leb a b)
-  where
-    go : (t : Bool) → (kind ≤ choose t kind (kind + 1)) × (choose t kind (kind + 1) ≤ kind + 1)
-    go true = omega arith
-    go false = omega arith
 
 -- the two legs of an XY path: along the row, then along the column
 xy : (columns rows source target : ℕ) → Nodes columns rows source target → TwoLegs columns rows source target
