@@ -3,7 +3,7 @@ use mathlib.Core.Path.{_≡_, refl}
 use mathlib.Core.List.{map}
 use Rattle.basics.specs.First.{firstFrom, first, some}
 use Rattle.basics.specs.Lists.{tabulate}
-use Rattle.basics.specs.Sums.{sumOf}
+use Rattle.basics.specs.Sums.{sumOf, countOf}
 use Rattle.mesh.specs.Node.{placeOf, nodeAt, apart, distanceOf}
 use Rattle.mesh.specs.Link.{linkOf, steps, stepOf, endOf}
 use Rattle.mesh.specs.Route.{towards, leg, alongRow, alongColumn, corner, routeOf}
@@ -18,10 +18,15 @@ use Rattle.model.specs.Flows.{numberOf, sourceOf, targetOf, periodOf, sizeOf, d
 use Rattle.model.specs.Packets.{periodsOf, hyperIn, turnsIn, packetsIn, packetOf, packetsFrom, packetsOf}
 use Rattle.model.specs.Refusals.{outsideOf, badMesh, badList, badNodes, badTimes, tooLong, badHyper, badPackets, refuseIf, orElse, flowRefusal, badFlow, flowsRefusal, sumsRefusal, refusalOf}
 use Rattle.model.specs.Answers.{refusedBy}
+use Rattle.placing.specs.Placing.{none, placed, inTheWay, free, timeOf, slotsOf, takenOf, placedBy, placingOf}
+use Rattle.placing.specs.Order.{insert, sorted, slackOf, slackAt}
+use Rattle.passes.specs.Pass.{raised, passFrom, passOver}
+use Rattle.passes.specs.Passes.{passesFrom, ceiling, searchOf, skippedIn, lowestSkipped}
+use Rattle.search.specs.Answering.{badSettings, settingsRefusal, badTable, searchRefusal, numberFor, placeFor, foundAnswer, answerOf, tableAfter}
 use Rattle.audit.specs.Check.{tooShort, checkRefusal, collided, passedWith, firstMeeting, verdictOf, checkOf}
-use Rattle.marked.specs.Examples.{Example, occupancyAt, onOneLink, meshA, flowsA, inShort, examples}
+use Rattle.marked.specs.Examples.{Example, occupancyAt, onOneLink, meshA, flowsA, inShort, inFull, examples}
 
 -- every marked example gives what the document says
 pub marked : map (λ (e : Example). e .gives) examples ≡ map (λ (e : Example). e .says) examples
-unfolding firstFrom first some tabulate sumOf placeOf nodeAt apart distanceOf linkOf steps stepOf endOf towards leg alongRow alongColumn corner routeOf has shares flitsOf occupancyOf turnsOf latestOf overlaps gcdF gcdOf lcmOf lcmWith hyperOf mayStart collide packetAt timeAt outside meets meetsHigher numberOf sourceOf targetOf periodOf sizeOf dueOf flowsIn linksOfFlow occupancyIn periodsOf hyperIn turnsIn packetsIn packetOf packetsFrom packetsOf outsideOf badMesh badList badNodes badTimes tooLong badHyper badPackets refuseIf orElse flowRefusal badFlow flowsRefusal sumsRefusal refusalOf refusedBy tooShort checkRefusal collided passedWith firstMeeting verdictOf checkOf occupancyAt onOneLink meshA flowsA inShort examples
+unfolding firstFrom first some tabulate sumOf countOf placeOf nodeAt apart distanceOf linkOf steps stepOf endOf towards leg alongRow alongColumn corner routeOf has shares flitsOf occupancyOf turnsOf latestOf overlaps gcdF gcdOf lcmOf lcmWith hyperOf mayStart collide packetAt timeAt outside meets meetsHigher numberOf sourceOf targetOf periodOf sizeOf dueOf flowsIn linksOfFlow occupancyIn periodsOf hyperIn turnsIn packetsIn packetOf packetsFrom packetsOf outsideOf badMesh badList badNodes badTimes tooLong badHyper badPackets refuseIf orElse flowRefusal badFlow flowsRefusal sumsRefusal refusalOf refusedBy placed inTheWay free timeOf slotsOf takenOf placedBy placingOf insert sorted slackOf slackAt raised passFrom passOver passesFrom ceiling searchOf skippedIn lowestSkipped badSettings settingsRefusal badTable searchRefusal numberFor placeFor foundAnswer answerOf tableAfter tooShort checkRefusal collided passedWith firstMeeting verdictOf checkOf occupancyAt onOneLink meshA flowsA inShort inFull examples
 marked = refl

@@ -1,6 +1,7 @@
 -- Document 01's marked examples, as rows of numbers: what the definitions give, and what the document says.
-use mathlib.Core.List.{List, [], _∷_}
+use mathlib.Core.List.{List, [], _∷_, _++_}
 use Prim.Native.Nat.{ℕ}
+use lib.ListN.{replicate}
 use Rattle.basics.specs.Choose.{asNumber}
 use Rattle.mesh.specs.Route.{routeOf}
 use Rattle.time.specs.Units.{flitsOf, occupancyOf, turnsOf, latestOf}
@@ -9,6 +10,7 @@ use Rattle.packet.specs.Packet.{Packet, collide}
 use Rattle.model.specs.declared.flows.Mesh.{Mesh}
 use Rattle.model.specs.declared.answers.Answer.{Answer}
 use Rattle.audit.specs.Check.{checkOf}
+use Rattle.search.specs.Answering.{answerOf, tableAfter}
 
 -- an example: what the definitions give, and what the document says
 pub record Example : Type 0 where
@@ -41,7 +43,14 @@ flowsA =
 unfoldable pub inShort : Answer → List ℕ
 inShort a = a .number ∷ a .place ∷ a .other ∷ []
 
--- T1 to T8, T11 and T12
+-- a search of Case A into five places: the table, then number, place, H, packets, passes, tries and skipped
+unfoldable pub inFull : ℕ → ℕ → List ℕ
+inFull f g =
+    let lent : List ℕ = replicate 5 0 in
+    let a = answerOf meshA f g flowsA lent in
+    tableAfter meshA f g flowsA lent ++ (a .number ∷ a .place ∷ a .hyper ∷ a .packets ∷ a .passes ∷ a .tries ∷ a .skipped ∷ [])
+
+-- T1 to T12
 unfoldable pub examples : List Example
 examples =
     -- T1: 2 × 2, 0 to 3
@@ -60,6 +69,10 @@ examples =
     ∷ record { gives = asNumber (collide (onOneLink 416) 0 (onOneLink 192) 416) ∷ []; says = 0 ∷ [] }
     -- T8: the second at 415: collision
     ∷ record { gives = asNumber (collide (onOneLink 416) 0 (onOneLink 192) 415) ∷ []; says = 1 ∷ [] }
+    -- T9: Case A: times, number, place, H, packets, passes, tries, skipped
+    ∷ record { gives = inFull 16 3; says = 416 ∷ 0 ∷ 416 ∷ 0 ∷ 0 ∷ 0 ∷ 0 ∷ 608 ∷ 5 ∷ 1 ∷ 57 ∷ 0 ∷ [] }
+    -- T10: Case A with F 10, G 2
+    ∷ record { gives = inFull 10 2; says = 420 ∷ 0 ∷ 4294967295 ∷ 0 ∷ 0 ∷ 13 ∷ 2 ∷ 608 ∷ 5 ∷ 3 ∷ 153 ∷ 1 ∷ [] }
     -- T11: Case A's table, packet 2 at 417
     ∷ record { gives = inShort (checkOf meshA flowsA (416 ∷ 0 ∷ 417 ∷ 0 ∷ 0 ∷ [])); says = 11 ∷ 2 ∷ 0 ∷ [] }
     -- T12: packet 2 at 415

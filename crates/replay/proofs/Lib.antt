@@ -6,3 +6,4 @@ pub mod Passed
 pub mod Receiver
 pub mod OfModel
 pub mod OfCheck
+pub mod OfSearch

@@ -123,7 +123,7 @@ module _ (mesh : Mesh) (numbers table : List ℕ) (offered : Offered mesh number
   judged = check-long mesh numbers fair table (offered .long-enough)
 
   -- number 0 of the check is that the table passes
-  check-passes : (checkOf mesh numbers table .number ≡ 0) ↔ (passes (packetsOf mesh numbers) table ≡ true)
+  pub check-passes : (checkOf mesh numbers table .number ≡ 0) ↔ (passes (packetsOf mesh numbers) table ≡ true)
   check-passes = (
     λ e. zero-passes (hyperIn numbers) (packetsOf mesh numbers) table (sym (ap (λ (x : Answer). x .number) judged) ∙ e),
     λ e. ap (λ (x : Answer). x .number) judged ∙ passes-zero (hyperIn numbers) (packetsOf mesh numbers) table e,

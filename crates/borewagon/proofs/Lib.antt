@@ -1,0 +1,2 @@
+-- What the program's loop rests on.
+pub mod Lengths

@@ -1,0 +1,42 @@
+// From the bytes of a text to the whole answer: the reader, then the search.
+use crate::numbering::Plan;
+use crate::numbering::bare;
+use crate::numbering::with_packets;
+use model::Refusal;
+use model::refused;
+use search::search;
+use text::read;
+ghost use mathlib.Core.Path.{_≡_};
+ghost use Prim.Native.Nat.{_*_, min};
+ghost use Rattle.planner.specs.Plan.{planOf, planTable};
+
+// How many flow numbers are judged: five to a flow, of at most 65 flows.
+fn judged(flows: usize) -> usize
+    ensures { λ r. ⌜ r ≡ 5 * min flows 65 ⌝ }
+{
+    if flows <= 65 { 5 * flows } else { 325 }
+}
+
+// The plan of a text: any bytes and any lent table are answered; a refusal leaves the table untouched.
+pub fn plan_of(text: &[u8], table: &mut [u32]) -> Plan
+    ensures { λ r. ⌜ (r ≡ planOf (now (text .entry)) (now (table .entry))) × (now (table .exit) ≡ planTable (now (text .entry)) (now (table .entry))) ⌝ }
+{
+    let input = read(text);
+    if input.malformed {
+        return bare(refused(Refusal {
+            number: 1,
+            place: input.line,
+        }));
+    }
+    let mesh = input.mesh;
+    let numbers = input.numbers;
+    let n = judged(input.flows);
+    let answer = search(
+        mesh,
+        input.pruning,
+        input.threshold,
+        &numbers[..n],
+        table,
+    );
+    with_packets(answer, mesh, &numbers[..n])
+}

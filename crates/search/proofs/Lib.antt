@@ -1,0 +1,5 @@
+-- The laws of the search.
+pub mod Reporting
+pub mod Spreading
+pub mod Modelling
+pub mod Entering

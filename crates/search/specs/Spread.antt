@@ -1,0 +1,36 @@
+-- The paths of the flows in one array of links, and packets as a model's arrays hold them.
+use mathlib.Core.Path.{_≡_}
+use mathlib.Core.List.{List, []}
+use Prim.Native.Nat.{ℕ, _+_, _*_, _≤_, _<_}
+use lib.ListN.{length, getD}
+use Rattle.mesh.specs.declared.paths.Path.{Path}
+use Rattle.time.specs.Hyper.{most}
+use Rattle.packet.specs.Packet.{Packet}
+use Rattle.packet.specs.Table.{packetAt}
+use Rattle.model.specs.Arrays.{noPath, packetIn}
+use Rattle.model.specs.declared.build.Model.{Model}
+
+-- place a of flow g holds link a of its path
+pub record Spread (paths : List Path) (links : List ℕ) : Type 0 where
+  pub long : length links ≡ 2048
+  pub links-at : (g a : ℕ) → g < 64 → a < 32 → getD links (g * 32 + a) 0 ≡ getD (getD paths g noPath .links) a 0
+
+-- entry g is how many links the path of flow g has
+pub record Lens (paths : List Path) (lens : List ℕ) : Type 0 where
+  pub lens-at : (g : ℕ) → g < 64 → getD lens g 0 ≡ getD paths g noPath .len
+
+-- a model holds a list of packets: each is read off its arrays, in time, and the settings are in their ranges
+pub record Modelled (ps : List Packet) (model : Model) (f g : ℕ) : Type 0 where
+  pub few : length ps ≤ 1024
+  pub count : model .packets .count ≡ length ps
+  pub read : (p : ℕ) → p < length ps → packetAt ps p ≡ packetIn (model .flows) (model .packets) p
+  pub fits : (p : ℕ) → p < length ps → packetAt ps p .release + packetAt ps p .occupancy ≤ packetAt ps p .deadline
+  pub ends : (p : ℕ) → p < length ps → packetAt ps p .deadline ≤ most
+  pub flows : (q : ℕ) → q < 1024 → getD (model .packets .flow) q 0 < 64
+  pub spans : (q : ℕ) → q < 64 → getD (model .flows .occupancy) q 0 ≤ most
+  pub whole : (q : ℕ) → q < 64 → length (getD (model .flows .path) q noPath .links) ≡ 32
+  pub short : (q : ℕ) → q < 64 → getD (model .flows .path) q noPath .len ≤ 32
+  pub some-step : 0 < f
+  pub small-step : f ≤ 65536
+  pub low : 0 < g
+  pub high : g ≤ 16

@@ -1,0 +1,6 @@
+// The search: a mesh, settings and flows in, an answer and a table out.
+mod entry;
+mod report;
+mod spread;
+
+pub use entry::search;
