@@ -1,2 +1,3 @@
 -- The laws of plans.
 pub mod Turning
+pub mod Planning

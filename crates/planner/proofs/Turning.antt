@@ -47,15 +47,16 @@ module _ (mesh : Mesh) (numbers : List ℕ) (fair : Fair mesh numbers) where
   pub model-turned : Turned (modelOf mesh numbers .flows) (modelOf mesh numbers .packets)
   unfolding modelOf
   model-turned = record {
-      ready = model-ready mesh numbers fair;
-      lasting = λ p h.
-          let l = below p h in
-          let q = packetAt (packetsOf mesh numbers) p in
-          let t = packets-in-time mesh numbers fair p l in
-          rw (flow-entry mesh numbers p l, period-entry mesh numbers (q .flow) (t .flow-in)) (fair .flows (q .flow) (t .flow-in) .times .period-low);
-      few = λ p h.
-          let l = below p h in
-          rw (packet-in mesh numbers fair p l) (omega (arith, packets-in-time mesh numbers fair p l .turn-small)) }
+    ready = model-ready mesh numbers fair;
+    lasting = λ p h.
+        let l = below p h in
+        let q = packetAt (packetsOf mesh numbers) p in
+        let t = packets-in-time mesh numbers fair p l in
+        rw (flow-entry mesh numbers p l, period-entry mesh numbers (q .flow) (t .flow-in)) (fair .flows (q .flow) (t .flow-in) .times .period-low);
+    few = λ p h.
+        let l = below p h in
+        rw (packet-in mesh numbers fair p l) (omega (arith, packets-in-time mesh numbers fair p l .turn-small));
+  }
 
   -- the turns that are read are those of the packets
   pub turns-are : padded 1024 0 (tabulate (λ p. packetIn (modelOf mesh numbers .flows) (modelOf mesh numbers .packets) p .turn) 0 (modelOf mesh numbers .packets .count))

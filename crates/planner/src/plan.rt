@@ -31,12 +31,6 @@ pub fn plan_of(text: &[u8], table: &mut [u32]) -> Plan
     let mesh = input.mesh;
     let numbers = input.numbers;
     let n = judged(input.flows);
-    let answer = search(
-        mesh,
-        input.pruning,
-        input.threshold,
-        &numbers[..n],
-        table,
-    );
+    let answer = search(mesh, input.pruning, input.threshold, &numbers[..n], table);
     with_packets(answer, mesh, &numbers[..n])
 }

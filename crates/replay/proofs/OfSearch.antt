@@ -64,8 +64,13 @@ module _ (mesh : Mesh) (f g : ℕ) (numbers table : List ℕ) where
     -- the lent table stays as long as it was
     long-after : packetsIn numbers ≤ length (tableAfter mesh f g numbers table)
     long-after =
-        omega (arith, ap length table-is, length-append (searchOf (packetsOf mesh numbers) f g .table) (drop (packetsIn numbers) table),
-        search-is-good .long, packets-length mesh numbers)
+        omega (
+          arith,
+          ap length table-is,
+          length-append (searchOf (packetsOf mesh numbers) f g .table) (drop (packetsIn numbers) table),
+          search-is-good .long,
+          packets-length mesh numbers,
+        )
 
     -- the answer of a search that is not refused
     answer-is : answerOf mesh f g numbers table ≡ foundAnswer numbers (packetsOf mesh numbers) (searchOf (packetsOf mesh numbers) f g)
@@ -99,7 +104,8 @@ module _ (mesh : Mesh) (f g : ℕ) (numbers table : List ℕ) where
       let taken = zero-taken e in
       record {
         not-refused = ap (λ (r : Refusal). r .number) (fair-accepted mesh numbers (searched-fair taken));
-        long-enough = long-after taken }
+        long-enough = long-after taken;
+      }
 
   -- every search reported complete gives a table that the check passes
   pub complete-is-passed : answerOf mesh f g numbers table .number ≡ 0 → checkOf mesh numbers (tableAfter mesh f g numbers table) .number ≡ 0

@@ -146,11 +146,10 @@ module _ (mesh : Mesh) (f g : ℕ) (numbers table : List ℕ) (e : refusalOf mes
   entry-found found s h =
       let n : model .packets .count ≡ length (packetsOf mesh numbers) = model-packets ∙ sym (packets-length mesh numbers) in
       let same : foundOf (model .packets .count) found ≡ searchOf (packetsOf mesh numbers) f g = ap (λ (k : ℕ). foundOf k found) n ∙ s .same in
-      let enough : packetsIn numbers ≤ length table = omega (arith, model-packets) in
-      (
+      let enough : packetsIn numbers ≤ length table = omega (arith, model-packets) in (
         report-is numbers (packetsOf mesh numbers) found (searchOf (packetsOf mesh numbers) f g) (model .hyper) (model .packets .count) same
-        (ap (λ (m : Model). m .hyper) is) n model-packets
-        ∙ sym (answer-is mesh f g numbers table e enough),
+            (ap (λ (m : Model). m .hyper) is) n model-packets
+            ∙ sym (answer-is mesh f g numbers table e enough),
         ap₂ (λ (t : List ℕ) (k : ℕ). t ++ drop k table) (ap (λ (x : Found). x .table) same) model-packets
-        ∙ sym (table-is mesh f g numbers table e enough),
+            ∙ sym (table-is mesh f g numbers table e enough),
       )

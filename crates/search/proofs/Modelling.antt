@@ -90,7 +90,7 @@ module _ (mesh : Mesh) (numbers : List ℕ) (fair : Fair mesh numbers) where
             omega (
               arith,
               padded-past 1024 0 (map (λ (p : Packet). p .flow) (packetsOf mesh numbers)) q 0
-              (omega (arith, length-map (packetsOf mesh numbers) (λ (p : Packet). p .flow), packets-length mesh numbers)) h,
+                  (omega (arith, length-map (packetsOf mesh numbers) (λ (p : Packet). p .flow), packets-length mesh numbers)) h,
             )
       ]
 
@@ -133,11 +133,11 @@ module _ (paths : List Path) (links lens : List ℕ) (spread : Spread paths link
       length-take-le (getD paths q noPath .len) (drop (q * 32) links) (omega (arith, length-drop (q * 32) links, spread .long)) in
       ext-getD 0 (take (getD paths q noPath .len) (getD paths q noPath .links)) (take (getD paths q noPath .len) (drop (q * 32) links)) (front ∙ sym part)
       (λ a l.
-          let k : a < getD paths q noPath .len = omega arith in
-          getD-take (getD paths q noPath .len) (getD paths q noPath .links) a 0 k
-          ∙ sym (spread .links-at q a h (omega arith))
-          ∙ sym (getD-drop (q * 32) links a 0)
-          ∙ sym (getD-take (getD paths q noPath .len) (drop (q * 32) links) a 0 k))
+      let k : a < getD paths q noPath .len = omega arith in
+      getD-take (getD paths q noPath .len) (getD paths q noPath .links) a 0 k
+      ∙ sym (spread .links-at q a h (omega arith))
+      ∙ sym (getD-drop (q * 32) links a 0)
+      ∙ sym (getD-take (getD paths q noPath .len) (drop (q * 32) links) a 0 k))
       ∙ ap (λ (m : ℕ). take m (drop (q * 32) links)) (sym n)
 
 -- what the passes ask

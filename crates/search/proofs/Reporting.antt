@@ -76,30 +76,30 @@ count-most test (suc n) = omega (arith, count-most test n, one (test n))
 module _ (found : Outcome) (hyper n skipped : ℕ) (e : skipped ≡ countOf (λ p. not (placed (found .times) p)) n) where
   -- none is skipped
   pub report-none : skipped ≡ 0 → record {
-        number = 0;
-        place = 0;
-        other = 0;
-        hyper = hyper;
-        packets = n;
-        passes = found .passes;
-        tries = found .tries;
-        skipped = 0;
-      }
+    number = 0;
+    place = 0;
+    other = 0;
+    hyper = hyper;
+    packets = n;
+    passes = found .passes;
+    tries = found .tries;
+    skipped = 0;
+  }
       ≡ reportOf found hyper n
   unfolding reportOf numberFor placeFor
   report-none z = sym (rw (sym e ∙ z) refl)
 
   -- some are
   pub report-some : (lowest : ℕ) → lowest ≡ first (λ p. not (placed (found .times) p)) n → (skipped ≡ 0 → ⊥) → record {
-        number = 13;
-        place = lowest;
-        other = 0;
-        hyper = hyper;
-        packets = n;
-        passes = found .passes;
-        tries = found .tries;
-        skipped = skipped;
-      }
+    number = 13;
+    place = lowest;
+    other = 0;
+    hyper = hyper;
+    packets = n;
+    passes = found .passes;
+    tries = found .tries;
+    skipped = skipped;
+  }
       ≡ reportOf found hyper n
   unfolding reportOf numberFor placeFor
   report-some lowest l z = sym (rw (sym e, sym l, ne-eqb skipped 0 z) refl)

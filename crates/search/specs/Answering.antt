@@ -45,26 +45,28 @@ placeFor skipped lowest = choose (eqb skipped 0) 0 lowest
 -- the answer of a search that was not refused, read off what the passes leave
 unfoldable pub reportOf : Outcome → ℕ → ℕ → Answer
 reportOf found hyper n = record {
-    number = numberFor (countOf (λ p. not (placed (found .times) p)) n);
-    place = placeFor (countOf (λ p. not (placed (found .times) p)) n) (first (λ p. not (placed (found .times) p)) n);
-    other = 0;
-    hyper = hyper;
-    packets = n;
-    passes = found .passes;
-    tries = found .tries;
-    skipped = countOf (λ p. not (placed (found .times) p)) n }
+  number = numberFor (countOf (λ p. not (placed (found .times) p)) n);
+  place = placeFor (countOf (λ p. not (placed (found .times) p)) n) (first (λ p. not (placed (found .times) p)) n);
+  other = 0;
+  hyper = hyper;
+  packets = n;
+  passes = found .passes;
+  tries = found .tries;
+  skipped = countOf (λ p. not (placed (found .times) p)) n;
+}
 
 -- 0 and 13 carry H and packets, passes, tries and skipped
 unfoldable pub foundAnswer : List ℕ → List Packet → Found → Answer
 foundAnswer numbers ps found = record {
-    number = numberFor (skippedIn ps (found .table));
-    place = placeFor (skippedIn ps (found .table)) (lowestSkipped ps (found .table));
-    other = 0;
-    hyper = hyperIn numbers;
-    packets = packetsIn numbers;
-    passes = found .passes;
-    tries = found .tries;
-    skipped = skippedIn ps (found .table) }
+  number = numberFor (skippedIn ps (found .table));
+  place = placeFor (skippedIn ps (found .table)) (lowestSkipped ps (found .table));
+  other = 0;
+  hyper = hyperIn numbers;
+  packets = packetsIn numbers;
+  passes = found .passes;
+  tries = found .tries;
+  skipped = skippedIn ps (found .table);
+}
 
 -- the answer: that of the first refusal, or of the search
 unfoldable pub answerOf : Mesh → ℕ → ℕ → List ℕ → List ℕ → Answer

@@ -43,7 +43,13 @@ fn refuse_settings(pruning: u32, threshold: u32) -> Refusal
 }
 
 // The answer, with the table in the first packets places of the lent one; a refusal writes nothing.
-pub fn search(mesh: Mesh, pruning: u32, threshold: u32, numbers: &[u32], table: &mut [u32]) -> Answer
+pub fn search(
+    mesh: Mesh,
+    pruning: u32,
+    threshold: u32,
+    numbers: &[u32],
+    table: &mut [u32],
+) -> Answer
     ensures { λ r. ⌜ (r ≡ answerOf mesh pruning threshold (now (numbers .entry)) (now (table .entry))) × (now (table .exit) ≡ tableAfter mesh pruning threshold (now (numbers .entry)) (now (table .entry))) ⌝ }
 {
     let first = refusal(mesh, refuse_settings(pruning, threshold), numbers);

@@ -80,6 +80,15 @@ pub fn run(model: Model, pruning: u32, threshold: u32) -> Outcome
     let release = model.packets.release;
     let longest = longest_of(&occupancy);
     rounds(
-        n, &flow, &occupancy, &lens, &links, &release, &due, longest, pruning, threshold,
+        n,
+        &flow,
+        &occupancy,
+        &lens,
+        &links,
+        &release,
+        &due,
+        longest,
+        pruning,
+        threshold,
     )
 }

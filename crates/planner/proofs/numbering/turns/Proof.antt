@@ -64,16 +64,17 @@ loop-less c = search needs
 
 loop-again : tie.Need-loop-again Inv-loop μ-loop
 unfolding packetIn
-loop-again c = 
+loop-again c =
     let p = c .before .before .before .before .loop .p in
     let all = c .before .before .before .before .loop .all in
-    let turn : ℕ → ℕ = (λ p. packetIn (c .before .before .before .before .before .args .t1) (c .before .before .before .before .before .args .t2) p .turn) in
-    (ap (λ (l : List ℕ). set l p (turn p)) (c .before .before .before .before .loop .inv .0) ∙ padded-tabulate 1024 0 turn p (omega (arith, c .before .before .before .before .before .pre .ready .few, c .before .before .before .loop-test .taken)),
-    omega (arith, c .before .before .before .loop-test .taken),
-    length-set all p (turn p) ∙ c .before .before .before .before .loop .inv .2)
+    let turn : ℕ → ℕ = (λ p. packetIn (c .before .before .before .before .before .args .t1) (c .before .before .before .before .before .args .t2) p .turn) in (
+      ap (λ (l : List ℕ). set l p (turn p)) (c .before .before .before .before .loop .inv .0) ∙ padded-tabulate 1024 0 turn p (omega (arith, c .before .before .before .before .before .pre .ready .few, c .before .before .before .loop-test .taken)),
+      omega (arith, c .before .before .before .loop-test .taken),
+      length-set all p (turn p) ∙ c .before .before .before .before .loop .inv .2,
+    )
 
 returns : tie.Need-returns Inv-loop μ-loop
-returns c = 
+returns c =
     let e : c .before .loop .p ≡ c .before .before .args .t2 .count = omega (arith, c .before .loop .inv .1, c .loop-test .left) in
     c .before .loop .inv .0 ∙ ap (λ (n : ℕ). padded 1024 0 (tabulate (λ p. packetIn (c .before .before .args .t1) (c .before .before .args .t2) p .turn) 0 n)) e
 

@@ -1,66 +1,57 @@
+-- `plan_of` takes the case of the definition that the reader says.
+use mathlib.Core.Path.{_≡_, sym, _∙_, ap}
+use mathlib.Core.List.{[]}
+use native.Mathlib.Omega.{arith}
+use lib.ListN.{length}
+use lib.Seq.{length-take-le}
+use Rattle.model.specs.declared.answers.Answer.{Answer}
+use Rattle.planner.specs.Numbered.{planFor}
+use Rattle.planner.proofs.Planning.{plan-malformed, table-malformed, plan-searched, table-searched}
 use borrow.Author.Needs.{needs}
 use Rattle.planner.proofs.plan.plan_of.Statement.{statement}
 use Rattle.planner.proofs.plan.plan_of.Tie as tie
-use Rattle.planner.proofs.plan.plan_of.Reads as reads
-use Rattle.planner.proofs.plan.plan_of.Lts as lts
-use Rattle.model.proofs.refused.Reads as refused-reads
-use Rattle.planner.proofs.numbering.bare.Reads as bare-reads
-use Rattle.planner.proofs.numbering.with_packets.Reads as with-packets-reads
-use Rattle.planner.proofs.plan.judged.Reads as judged-reads
-use Rattle.search.proofs.search.Reads as search-reads
-use Rattle.text.proofs.read.Reads as read-reads
 
--- src/plan.rt:24:9
 read-requires : tie.Need-read-requires
 read-requires c κs = search needs
 
--- src/plan.rt:26:21
 refused-requires : tie.Need-refused-requires
 refused-requires c κs = search needs
 
--- src/plan.rt:26:9
 bare-requires : tie.Need-bare-requires
 bare-requires c κs = search needs
 
--- src/plan.rt:26:9
 returns : tie.Need-returns
-returns c = search needs
+returns c = (c .bare .ensures ∙ ap (λ (a : Answer). planFor a []) (c .before .refused .ensures) ∙ plan-malformed (c .before .before .before .before .before .before .args .text .now) (c .before .before .before .before .before .before .args .table .now) (c .before .before .before .read .result) (c .before .before .before .read .ensures) (c .before .before .if1 .taken), table-malformed (c .before .before .before .before .before .before .args .text .now) (c .before .before .before .before .before .before .args .table .now) (c .before .before .before .read .result) (c .before .before .before .read .ensures) (c .before .before .if1 .taken))
 
--- src/plan.rt:33:9
 judged-requires : tie.Need-judged-requires
 judged-requires c κs = search needs
 
--- src/plan.rt:38:9
 array-share-prefix-numbers : tie.Need-array-share-prefix-numbers
-array-share-prefix-numbers c = search needs
+array-share-prefix-numbers c = let long : length (c .before .before .before .before .read .result .numbers) ≡ 325 = search needs in omega (arith, c .judged .ensures)
 
--- src/plan.rt:38:9
 slice-aggregate-search : tie.Need-slice-aggregate-search
-slice-aggregate-search c = search needs
+slice-aggregate-search c = let long : length (c .before .before .before .before .before .read .result .numbers) ≡ 325 = search needs in sym (length-take-le (c .before .judged .result) (c .before .before .before .before .before .read .result .numbers) (omega (arith, c .before .judged .ensures)))
 
--- src/plan.rt:34:9
 search-requires : tie.Need-search-requires
 search-requires c κs = search needs
 
--- src/plan.rt:41:32
 array-share-prefix-numbers-2 : tie.Need-array-share-prefix-numbers-2
-array-share-prefix-numbers-2 c = search needs
+array-share-prefix-numbers-2 c = let long : length (c .before .before .before .before .before .before .before .before .before .read .result .numbers) ≡ 325 = search needs in omega (arith, c .before .before .before .before .before .judged .ensures)
 
--- src/plan.rt:41:32
 slice-aggregate-with-packets : tie.Need-slice-aggregate-with-packets
-slice-aggregate-with-packets c = search needs
+slice-aggregate-with-packets c = let long : length (c .before .before .before .before .before .before .before .before .before .before .read .result .numbers) ≡ 325 = search needs in sym (length-take-le (c .before .before .before .before .before .before .judged .result) (c .before .before .before .before .before .before .before .before .before .before .read .result .numbers) (omega (arith, c .before .before .before .before .before .before .judged .ensures)))
 
--- src/plan.rt:41:5
 with-packets-requires : tie.Need-with-packets-requires
 with-packets-requires c κs = search needs
 
--- src/plan.rt:21:1
 same-length : tie.Need-same-length
 same-length c = search needs
 
--- src/plan.rt:21:1
 returns-2 : tie.Need-returns-2
-returns-2 c = search needs
+returns-2 c = (
+  c .with-packets .ensures ∙ plan-searched (c .before .before .before .before .before .before .before .before .before .before .before .before .before .before .args .text .now) (c .before .before .before .before .before .before .before .before .before .before .before .before .before .before .args .table .now) (c .before .before .before .before .before .before .before .before .before .before .before .read .result) (c .before .before .before .before .before .before .before .before .before .before .before .read .ensures) (c .before .before .before .before .before .before .before .before .before .before .if1 .left) (c .before .before .before .before .before .before .before .judged .result) (c .before .before .before .before .before .before .before .judged .ensures) (c .before .before .before .before .search .result) (c .before .before .before .before .search .ensures .0),
+  table-searched (c .before .before .before .before .before .before .before .before .before .before .before .before .before .before .args .text .now) (c .before .before .before .before .before .before .before .before .before .before .before .before .before .before .args .table .now) (c .before .before .before .before .before .before .before .before .before .before .before .read .result) (c .before .before .before .before .before .before .before .before .before .before .before .read .ensures) (c .before .before .before .before .before .before .before .before .before .before .if1 .left) (c .before .before .before .before .before .before .before .judged .result) (c .before .before .before .before .before .before .before .judged .ensures) (c .before .before .before .before .search .last .1 .1 .1 .1 .0) (c .before .before .before .before .search .ensures .1),
+)
 
 pub plan-of-spec : {M : Type 1} → statement M
 plan-of-spec =

@@ -20,7 +20,7 @@ refused-requires : tie.Need-refused-requires
 refused-requires c κs = search needs
 
 returns : tie.Need-returns
-returns c = 
+returns c =
     let is = (c .before .before .before .refusal .ensures ∙ ap (λ (r : Refusal). refusalOf (c .before .before .before .before .before .before .before .args .mesh) r (c .before .before .before .before .before .before .before .args .numbers .now)) (c .before .before .before .before .refuse-settings .ensures)) in
     let r = entry-refused (c .before .before .before .before .before .before .before .args .mesh) (c .before .before .before .before .before .before .before .args .pruning) (c .before .before .before .before .before .before .before .args .threshold) (c .before .before .before .before .before .before .before .args .numbers .now) (c .before .before .before .before .before .before .before .args .table .now) (λ z. c .before .if1 .taken (ap (λ (r : Refusal). r .number) is ∙ z)) in
     (c .refused .ensures ∙ ap refusedBy is ∙ r .0, r .1)
@@ -32,7 +32,7 @@ refused-requires-2 : tie.Need-refused-requires-2
 refused-requires-2 c κs = search needs
 
 returns-2 : tie.Need-returns-2
-returns-2 c = 
+returns-2 c =
     let r = entry-short (c .before .before .before .before .before .before .before .before .before .args .mesh) (c .before .before .before .before .before .before .before .before .before .args .pruning) (c .before .before .before .before .before .before .before .before .before .args .threshold) (c .before .before .before .before .before .before .before .before .before .args .numbers .now) (c .before .before .before .before .before .before .before .before .before .args .table .now) (ap (λ (r : Refusal). r .number) (sym (c .before .before .before .before .before .refusal .ensures ∙ ap (λ (r : Refusal). refusalOf (c .before .before .before .before .before .before .before .before .before .args .mesh) r (c .before .before .before .before .before .before .before .before .before .args .numbers .now)) (c .before .before .before .before .before .before .refuse-settings .ensures))) ∙ c .before .before .before .if1 .left) (omega (arith, c .before .if2 .taken, model-packets (c .before .before .before .before .before .before .before .before .before .args .mesh) (c .before .before .before .before .before .before .before .before .before .args .pruning) (c .before .before .before .before .before .before .before .before .before .args .threshold) (c .before .before .before .before .before .before .before .before .before .args .numbers .now) (c .before .before .before .before .before .before .before .before .before .args .table .now) (ap (λ (r : Refusal). r .number) (sym (c .before .before .before .before .before .refusal .ensures ∙ ap (λ (r : Refusal). refusalOf (c .before .before .before .before .before .before .before .before .before .args .mesh) r (c .before .before .before .before .before .before .before .before .before .args .numbers .now)) (c .before .before .before .before .before .before .refuse-settings .ensures))) ∙ c .before .before .before .if1 .left) (c .before .before .model-of .result) (c .before .before .model-of .ensures))) in
     (c .refused2 .ensures ∙ r .0, r .1)
 
@@ -40,7 +40,7 @@ run-requires : tie.Need-run-requires
 run-requires c κs = ((packetsOf (c .before .before .before .before .before .before .before .before .args .mesh) (c .before .before .before .before .before .before .before .before .args .numbers .now)), model-holds (c .before .before .before .before .before .before .before .before .args .mesh) (c .before .before .before .before .before .before .before .before .args .pruning) (c .before .before .before .before .before .before .before .before .args .threshold) (c .before .before .before .before .before .before .before .before .args .numbers .now) (c .before .before .before .before .before .before .before .before .args .table .now) (ap (λ (r : Refusal). r .number) (sym (c .before .before .before .before .refusal .ensures ∙ ap (λ (r : Refusal). refusalOf (c .before .before .before .before .before .before .before .before .args .mesh) r (c .before .before .before .before .before .before .before .before .args .numbers .now)) (c .before .before .before .before .before .refuse-settings .ensures))) ∙ c .before .before .if1 .left) (c .before .model-of .result) (c .before .model-of .ensures))
 
 report-requires : tie.Need-report-requires
-report-requires c κs = 
+report-requires c κs =
     let m = model-holds (c .before .before .before .before .before .before .before .before .before .before .args .mesh) (c .before .before .before .before .before .before .before .before .before .before .args .pruning) (c .before .before .before .before .before .before .before .before .before .before .args .threshold) (c .before .before .before .before .before .before .before .before .before .before .args .numbers .now) (c .before .before .before .before .before .before .before .before .before .before .args .table .now) (ap (λ (r : Refusal). r .number) (sym (c .before .before .before .before .before .before .refusal .ensures ∙ ap (λ (r : Refusal). refusalOf (c .before .before .before .before .before .before .before .before .before .before .args .mesh) r (c .before .before .before .before .before .before .before .before .before .before .args .numbers .now)) (c .before .before .before .before .before .before .before .refuse-settings .ensures))) ∙ c .before .before .before .before .if1 .left) (c .before .before .before .model-of .result) (c .before .before .before .model-of .ensures) in
     (c .before .run .ensures (packetsOf (c .before .before .before .before .before .before .before .before .before .before .args .mesh) (c .before .before .before .before .before .before .before .before .before .before .args .numbers .now)) m .times-long, omega (arith, m .count, m .few), omega (arith, c .before .before .if2 .left))
 
@@ -48,7 +48,7 @@ same-length : tie.Need-same-length
 same-length c = search needs
 
 returns-3 : tie.Need-returns-3
-returns-3 c = 
+returns-3 c =
     let m = model-holds (c .before .before .before .before .before .before .before .before .before .before .before .before .before .args .mesh) (c .before .before .before .before .before .before .before .before .before .before .before .before .before .args .pruning) (c .before .before .before .before .before .before .before .before .before .before .before .before .before .args .threshold) (c .before .before .before .before .before .before .before .before .before .before .before .before .before .args .numbers .now) (c .before .before .before .before .before .before .before .before .before .before .before .before .before .args .table .now) (ap (λ (r : Refusal). r .number) (sym (c .before .before .before .before .before .before .before .before .before .refusal .ensures ∙ ap (λ (r : Refusal). refusalOf (c .before .before .before .before .before .before .before .before .before .before .before .before .before .args .mesh) r (c .before .before .before .before .before .before .before .before .before .before .before .before .before .args .numbers .now)) (c .before .before .before .before .before .before .before .before .before .before .refuse-settings .ensures))) ∙ c .before .before .before .before .before .before .before .if1 .left) (c .before .before .before .before .before .before .model-of .result) (c .before .before .before .before .before .before .model-of .ensures) in
     let r = entry-found (c .before .before .before .before .before .before .before .before .before .before .before .before .before .args .mesh) (c .before .before .before .before .before .before .before .before .before .before .before .before .before .args .pruning) (c .before .before .before .before .before .before .before .before .before .before .before .before .before .args .threshold) (c .before .before .before .before .before .before .before .before .before .before .before .before .before .args .numbers .now) (c .before .before .before .before .before .before .before .before .before .before .before .before .before .args .table .now) (ap (λ (r : Refusal). r .number) (sym (c .before .before .before .before .before .before .before .before .before .refusal .ensures ∙ ap (λ (r : Refusal). refusalOf (c .before .before .before .before .before .before .before .before .before .before .before .before .before .args .mesh) r (c .before .before .before .before .before .before .before .before .before .before .before .before .before .args .numbers .now)) (c .before .before .before .before .before .before .before .before .before .before .refuse-settings .ensures))) ∙ c .before .before .before .before .before .before .before .if1 .left) (c .before .before .before .before .before .before .model-of .result) (c .before .before .before .before .before .before .model-of .ensures) (c .before .before .before .before .run .result) (c .before .before .before .before .run .ensures (packetsOf (c .before .before .before .before .before .before .before .before .before .before .before .before .before .args .mesh) (c .before .before .before .before .before .before .before .before .before .before .before .before .before .args .numbers .now)) m) (omega (arith, c .before .before .before .before .before .if2 .left)) in
     (c .before .before .report .ensures .0 ∙ r .0, c .before .before .report .ensures .1 ∙ r .1)

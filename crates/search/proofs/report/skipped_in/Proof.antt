@@ -38,14 +38,14 @@ loop-less : tie.Need-loop-less Inv-loop μ-loop
 loop-less c = search needs
 
 loop-again : tie.Need-loop-again Inv-loop μ-loop
-loop-again c = 
+loop-again c =
     let test : ℕ → Bool = λ q. not (placed (c .before .before .before .before .args .times .now) q) in
     let next = count-next test (c .before .before .before .loop .p) in
     let before = c .before .before .before .loop .inv .0 in
     (⊎-elim (λ w. omega (arith, ap asNumber (not-placed (c .before .before .before .before .args .times .now) (c .before .before .before .loop .p) (omega (arith, c .before .before .before .before .pre .0, c .before .before .before .before .pre .1, c .before .before .loop-test .taken)) (w .0 .taken)), w .1)) (λ w. omega (arith, ap asNumber (is-placed (c .before .before .before .before .args .times .now) (c .before .before .before .loop .p) (omega (arith, c .before .before .before .before .pre .0, c .before .before .before .before .pre .1, c .before .before .loop-test .taken)) (w .0 .left)), w .1)) (c .if1 .came), omega (arith, c .before .before .loop-test .taken))
 
 returns : tie.Need-returns Inv-loop μ-loop
-returns c = 
+returns c =
     let e : c .before .loop .p ≡ c .before .before .args .n = omega (arith, c .before .loop .inv .1, c .loop-test .left) in
     c .before .loop .inv .0 ∙ ap (countOf (λ (q : ℕ). not (placed (c .before .before .args .times .now) q))) e
 

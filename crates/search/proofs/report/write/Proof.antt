@@ -45,7 +45,7 @@ same-length : tie.Need-same-length Inv-loop μ-loop
 same-length c = c .before .loop .inv .2
 
 returns : tie.Need-returns Inv-loop μ-loop
-returns c = 
+returns c =
     let e : c .before .loop .p ≡ c .before .before .args .n = omega (arith, c .before .loop .inv .1, c .loop-test .left) in
     c .before .loop .inv .0 ∙ ap (λ (m : ℕ). take m (c .before .before .args .times .now) ++ drop m (c .before .before .args .table .now)) e
 

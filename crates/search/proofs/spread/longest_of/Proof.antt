@@ -30,7 +30,7 @@ loop-less : tie.Need-loop-less Inv-loop μ-loop
 loop-less c = search needs
 
 loop-again : tie.Need-loop-again Inv-loop μ-loop
-loop-again c = 
+loop-again c =
     (omega (arith, c .before .before .loop-test .taken), ⊎-elim (λ w. below-more _ _ (λ k h. omega (arith, c .before .before .before .loop .inv .1 k h, w)) (omega (arith, w))) (λ w. below-more _ _ (λ k h. omega (arith, c .before .before .before .loop .inv .1 k h, w)) (omega (arith, w))) (c .if1 .came))
 
 returns : tie.Need-returns Inv-loop μ-loop

@@ -48,7 +48,7 @@ loop-again : tie.Need-loop-again Inv-loop μ-loop
 loop-again c = (ap (λ (l : List ℕ). set l (c .before .before .before .args .f * 32 + c .before .before .loop .a) (getD (c .before .before .before .args .t3 .links) (c .before .before .loop .a) 0)) (c .before .before .loop .inv .0) ∙ paste-suc (c .before .before .before .args .links) (c .before .before .before .args .f * 32) (c .before .before .before .args .t3 .links) (c .before .before .loop .a) 0 (omega (arith, c .before .before .before .pre .0, c .before .before .before .pre .1, c .before .loop-test .taken)) (omega (arith, c .before .before .before .pre .2, c .before .loop-test .taken)) ∙ ap (paste (c .before .before .before .args .links) (c .before .before .before .args .f * 32) (c .before .before .before .args .t3 .links)) (sym (add-one (c .before .before .loop .a))), omega (arith, c .before .loop-test .taken), length-set (c .before .before .loop .next) _ _ ∙ c .before .before .loop .inv .2)
 
 returns : tie.Need-returns Inv-loop μ-loop
-returns c = 
+returns c =
     let e : c .before .loop .a ≡ 32 = omega (arith, c .before .loop .inv .1, c .loop-test .left) in
     c .before .loop .inv .0 ∙ ap (paste (c .before .before .args .links) (c .before .before .args .f * 32) (c .before .before .args .t3 .links)) e
 
