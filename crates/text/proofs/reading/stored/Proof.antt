@@ -6,7 +6,7 @@ use native.Mathlib.Numerals.{add-one}
 use native.Mathlib.Omega.{arith}
 use borrow.Author.Tests.{lt-ltb, le-ltb}
 use lib.ListN.{length, getD, set}
-use lib.Seq.{paste, paste-zero, paste-suc, length-paste}
+use lib.Seq.{paste, paste-zero, paste-suc}
 use Rattle.text.specs.Steps.{storedAt}
 use borrow.Author.Needs.{needs}
 use Rattle.text.proofs.reading.stored.Statement.{statement}
@@ -38,10 +38,6 @@ begins count five numbers h f l = record {
 }
 
 module _ (count : ℕ) (five numbers : List ℕ) (at : ℕ) (next : List ℕ) (j : ℕ) (s : Copied count five numbers at next j) where
-  -- the array keeps its length
-  as-long : length next ≡ 325
-  as-long = ap length (s .copied) ∙ length-paste numbers at five j (omega arith) (omega arith) ∙ s .long
-
   -- one more
   onward : j < 5 → Copied count five numbers at (set next (at + j) (getD five j 0)) (j + 1)
   onward h = record {

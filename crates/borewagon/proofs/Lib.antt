@@ -1,2 +1,0 @@
--- What the program's loop rests on.
-pub mod Lengths
