@@ -18,7 +18,7 @@ use Rattle.model.specs.Flows.{numberOf, sourceOf, targetOf, periodOf, sizeOf, d
 use Rattle.model.specs.Packets.{periodsOf, hyperIn, turnsIn, packetsIn, packetOf, packetsFrom, packetsOf}
 use Rattle.model.specs.Refusals.{outsideOf, badMesh, badList, badNodes, badTimes, tooLong, badHyper, badPackets, refuseIf, orElse, flowRefusal, badFlow, flowsRefusal, sumsRefusal, refusalOf}
 use Rattle.model.specs.Answers.{refusedBy}
-use Rattle.placing.specs.Placing.{none, placed, inTheWay, free, timeOf, slotsOf, takenOf, placedBy, placingOf}
+use Rattle.placing.specs.Placing.{placed, inTheWay, free, timeOf, slotsOf, takenOf, placedBy, placingOf}
 use Rattle.placing.specs.Order.{insert, sorted, slackOf, slackAt}
 use Rattle.passes.specs.Pass.{raised, passFrom, passOver}
 use Rattle.passes.specs.Passes.{passesFrom, ceiling, searchOf, skippedIn, lowestSkipped}

@@ -7,4 +7,6 @@ pub mod Along
 pub mod Fuel
 pub mod Slack
 pub mod Searching
+pub mod Sound
 pub mod Complete
+pub mod Determined

@@ -7,3 +7,4 @@ pub mod Facing
 pub mod Bridging
 pub mod OneMore
 pub mod Ordering
+pub mod Determined

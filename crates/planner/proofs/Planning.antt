@@ -1,9 +1,8 @@
 -- The plan of a text by its two cases, malformed and not, in the terms of the calls that make it.
-use mathlib.Core.Path.{_≡_, sym, _∙_, ap, ap₂}
+use mathlib.Core.Path.{_≡_, sym, _∙_, ap}
 use mathlib.Core.Bool.{true, false}
 use mathlib.Core.List.{List, []}
-use Prim.Native.Nat.{ℕ, _*_, _≤_, min}
-use native.Mathlib.Omega.{arith}
+use Prim.Native.Nat.{ℕ, _*_, min}
 use lib.ListN.{take}
 use Rattle.model.specs.Answers.{refusedBy}
 use Rattle.model.specs.declared.answers.Answer.{Answer}

@@ -1,8 +1,7 @@
 -- The turns of the packets, read off the arrays of a model that is not refused.
 use mathlib.Core.Path.{_≡_, refl, sym, _∙_, ap, ap₂}
-use mathlib.Core.Bool.{true}
 use mathlib.Core.List.{List, [], map}
-use Prim.Native.Nat.{ℕ, zero, suc, _+_, _≤_, _<_}
+use Prim.Native.Nat.{ℕ, _<_}
 use native.Mathlib.Nat.{zero-add}
 use native.Mathlib.Omega.{arith}
 use lib.ListN.{length, getD, length-map, List·getD-map}
@@ -12,7 +11,6 @@ use Rattle.basics.specs.Lists.{tabulate, padded}
 use Rattle.basics.proofs.Lists.{tabulate-length, tabulate-at}
 use Rattle.packet.specs.Packet.{Packet, absent}
 use Rattle.packet.specs.Table.{packetAt}
-use Rattle.model.specs.Flows.{periodOf, flowsIn}
 use Rattle.model.specs.Packets.{packetsIn, packetsOf}
 use Rattle.model.specs.Refusals.{accepted, refusalOf}
 use Rattle.model.specs.Fair.{Fair}
@@ -22,7 +20,7 @@ use Rattle.model.specs.declared.build.Model.{Model}
 use Rattle.model.specs.declared.flows.Mesh.{Mesh}
 use Rattle.model.proofs.Accepted.{accepted-fair}
 use Rattle.model.proofs.Numbering.{packets-length}
-use Rattle.model.proofs.InTime.{InTime, packets-in-time}
+use Rattle.model.proofs.InTime.{packets-in-time}
 use Rattle.model.proofs.Entries.{period-entry, flow-entry}
 use Rattle.model.proofs.Reading.{model-count, packet-in, model-ready}
 use Rattle.planner.specs.Numbered.{packetsFor, arrayOf, planFor, Turned}

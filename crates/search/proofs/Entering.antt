@@ -1,9 +1,9 @@
 -- The answer of the search and the table that it leaves, on each way through it: refused by the model or the settings, refused for a
 -- short table, or found.
 use mathlib.Core.Path.{_≡_, refl, sym, _∙_, ap, ap₂, subst}
-use mathlib.Core.Bool.{Bool, true, false, not}
-use mathlib.Core.List.{List, [], _++_}
-use Prim.Native.Nat.{ℕ, _+_, _≤_, _<_}
+use mathlib.Core.Bool.{true, false, not}
+use mathlib.Core.List.{List, _++_}
+use Prim.Native.Nat.{ℕ, _≤_, _<_}
 use native.Mathlib.Omega.{arith}
 use lib.Dec.{eqb}
 use lib.ListN.{length, take, drop}
@@ -14,13 +14,12 @@ use Rattle.basics.specs.Sums.{countOf}
 use Rattle.basics.proofs.First.{first-same}
 use Rattle.packet.specs.Packet.{Packet}
 use Rattle.model.specs.Packets.{hyperIn, packetsIn, packetsOf}
-use Rattle.model.specs.Refusals.{outsideOf, accepted, refuseIf, orElse, refusalOf}
+use Rattle.model.specs.Refusals.{outsideOf, refuseIf, refusalOf}
 use Rattle.model.specs.Answers.{refusedBy}
 use Rattle.model.specs.Fair.{Fair}
 use Rattle.model.specs.Arrays.{modelOf}
 use Rattle.model.specs.declared.flows.Mesh.{Mesh}
 use Rattle.model.specs.declared.answers.Refusal.{Refusal}
-use Rattle.model.specs.declared.answers.Answer.{Answer}
 use Rattle.model.specs.declared.build.Model.{Model}
 use Rattle.model.proofs.Order.{neither, inside, refuse-none, or-next, or-stays}
 use Rattle.model.proofs.Accepted.{accepted-fair, accepted-between}
@@ -30,7 +29,7 @@ use Rattle.placing.specs.Placing.{none, placed}
 use Rattle.passes.specs.Passes.{Found, searchOf, skippedIn, lowestSkipped}
 use Rattle.passes.specs.Search.{foundOf, Searched}
 use Rattle.passes.specs.declared.repeat.Outcome.{Outcome}
-use Rattle.search.specs.Answering.{badSettings, settingsRefusal, badTable, searchRefusal, numberFor, placeFor, reportOf, foundAnswer, answerOf, tableAfter}
+use Rattle.search.specs.Answering.{badSettings, settingsRefusal, badTable, searchRefusal, reportOf, foundAnswer, answerOf, tableAfter}
 use Rattle.search.specs.Spread.{Modelled}
 use Rattle.search.proofs.Reporting.{count-same}
 use Rattle.search.proofs.Modelling.{fair-modelled}

@@ -3,3 +3,5 @@ pub mod Reporting
 pub mod Spreading
 pub mod Modelling
 pub mod Entering
+pub mod Promises
+pub mod Determined

@@ -1,7 +1,7 @@
 -- A model that is not refused holds its packets, and so do the arrays that its paths are spread into.
 -- In order: what an array reads as behind what it was filled with; the packets of the model; the paths in one array; and what the
 -- passes ask.
-use mathlib.Core.Path.{_≡_, refl, sym, _∙_, ap, subst}
+use mathlib.Core.Path.{_≡_, sym, _∙_, ap, subst}
 use mathlib.Core.List.{List, [], _++_, map}
 use Prim.Native.Nat.{ℕ, _+_, _-_, _*_, _≤_, _<_}
 use native.Mathlib.Nat.{lt-of-not-le}
@@ -10,13 +10,12 @@ use native.Mathlib.Omega.{arith}
 use lib.ListN.{length, getD, take, drop, replicate, length-drop, length-map, getD-replicate}
 use lib.Seq.{length-take-le, getD-take, getD-drop, getD-append-add, ext-getD}
 use Rattle.basics.specs.Lists.{tabulate, padded}
-use Rattle.basics.proofs.Lists.{tabulate-length, padded-length, padded-at}
+use Rattle.basics.proofs.Lists.{tabulate-length, padded-length}
 use Rattle.mesh.specs.Route.{pathOf, linksOf}
 use Rattle.mesh.specs.declared.paths.Path.{Path}
 use Rattle.time.specs.Hyper.{most}
 use Rattle.packet.specs.Packet.{Packet}
-use Rattle.packet.specs.Table.{packetAt}
-use Rattle.model.specs.Flows.{dueOf, flowsIn, linksOfFlow, occupancyIn}
+use Rattle.model.specs.Flows.{flowsIn, linksOfFlow, occupancyIn}
 use Rattle.model.specs.Packets.{packetsIn, packetOf, packetsOf}
 use Rattle.model.specs.Fair.{Fair}
 use Rattle.model.specs.Arrays.{flowsUpTo, arraysOf, modelOf, noPath, packetIn}
@@ -26,7 +25,7 @@ use Rattle.model.proofs.Numbering.{packets-length}
 use Rattle.model.proofs.InTime.{InTime, turns-low, fair-timed, packet-in-time, packets-in-time}
 use Rattle.model.proofs.Entries.{occupancy-entry, path-entry, flow-entry}
 use Rattle.model.proofs.Reading.{model-count, packet-in}
-use Rattle.placing.specs.Kept.{Load, loadOf, pathIn, Loaded}
+use Rattle.placing.specs.Kept.{loadOf, pathIn}
 use Rattle.placing.specs.Held.{flowAt, Held}
 use Rattle.passes.specs.State.{Ready}
 use Rattle.search.specs.Spread.{Spread, Lens, Modelled}

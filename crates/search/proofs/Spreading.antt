@@ -1,16 +1,13 @@
 -- The paths in one array: what stands in each flow's places after one more path is stored.
-use mathlib.Core.Path.{_≡_, refl, sym, _∙_, ap, subst}
-use mathlib.Core.List.{List, [], _∷_, _++_}
-use Prim.Native.Nat.{ℕ, zero, suc, _+_, _-_, _*_, _≤_, _<_}
-use native.Mathlib.Nat.{lt-of-not-le, add-zero}
-use native.Mathlib.Decide.{decLe, ℕ-discrete}
-use native.Mathlib.Numerals.{add-one}
+use mathlib.Core.Path.{_≡_, sym, _∙_, ap, subst}
+use mathlib.Core.List.{List, _++_}
+use Prim.Native.Nat.{ℕ, _+_, _*_, _≤_, _<_}
+use native.Mathlib.Decide.{ℕ-discrete}
 use native.Mathlib.Omega.{arith}
-use lib.ListN.{length, getD, set, take, drop, length-set, length-append, List·getD-append}
+use lib.ListN.{length, getD, set, take, drop, length-set, List·getD-append}
 use lib.Seq.{paste, length-paste, length-paste-head, length-take-le, getD-take, getD-append-add, getD-set-same, getD-set-other}
 use Rattle.mesh.specs.declared.paths.Path.{Path}
 use Rattle.model.specs.Arrays.{noPath}
-use Rattle.search.specs.Spread.{Spread, Lens}
 
 module _ (links : List ℕ) (at : ℕ) (path : List ℕ) (n : ℕ) (long : at + n ≤ length links) (enough : n ≤ length path) where
   -- the places before a stored part do not change

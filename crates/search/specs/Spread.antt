@@ -1,6 +1,6 @@
 -- The paths of the flows in one array of links, and packets as a model's arrays hold them.
 use mathlib.Core.Path.{_≡_}
-use mathlib.Core.List.{List, []}
+use mathlib.Core.List.{List}
 use Prim.Native.Nat.{ℕ, _+_, _*_, _≤_, _<_}
 use lib.ListN.{length, getD}
 use Rattle.mesh.specs.declared.paths.Path.{Path}

@@ -1,7 +1,6 @@
 -- `rounds` takes one pass in each turn; fewer were begun than the ceiling (proofs/Searching.antt).
 use mathlib.Core.Path.{_≡_, refl, ap}
 use native.Mathlib.Omega.{arith}
-use mathlib.Core.Path.{_≡_, refl}
 use Prim.Native.Nat.{ℕ, _+_, _-_, _*_}
 use lib.ListN.{length}
 use Rattle.placing.specs.Kept.{loadOf}

@@ -1,5 +1,5 @@
 -- `with_packets` has the arrays of a model that is not refused, and of no packet else.
-use mathlib.Core.Path.{_≡_, sym, _∙_, ap, subst}
+use mathlib.Core.Path.{sym, _∙_, ap, subst}
 use Rattle.model.specs.Refusals.{accepted}
 use Rattle.model.specs.declared.answers.Refusal.{Refusal}
 use Rattle.model.specs.declared.build.Model.{Model}

@@ -1,6 +1,5 @@
 -- Each test that passes makes the definition true, and the last decides.
 use mathlib.Core.Path.{refl, sym}
-use mathlib.Core.Path.{sym}
 use borrow.Author.Tests.{lt-ltb, le-ltb}
 use Rattle.model.specs.Refusals.{outsideOf}
 use Rattle.search.specs.Answering.{badSettings}

@@ -1,6 +1,6 @@
 -- `search` is refused by the settings or the model, refused for a short table, or finds (proofs/Entering.antt has each way).
 use native.Mathlib.Omega.{arith}
-use mathlib.Core.Path.{_≡_, refl, sym, _∙_, ap}
+use mathlib.Core.Path.{sym, _∙_, ap}
 use Rattle.model.specs.Answers.{refusedBy}
 use Rattle.model.specs.Packets.{packetsOf}
 use Rattle.model.specs.Refusals.{refusalOf}

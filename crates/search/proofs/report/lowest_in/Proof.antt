@@ -1,7 +1,7 @@
 -- `lowest_in` stops at the first place that holds no time, or at the end.
 use native.Mathlib.Omega.{arith}
-use Prim.Native.Nat.{ℕ, _+_, _-_, _≤_, _<_}
-use mathlib.Core.Path.{_≡_, refl, sym, _∙_, ap}
+use Prim.Native.Nat.{ℕ, _-_, _≤_, _<_}
+use mathlib.Core.Path.{_≡_, sym}
 use mathlib.Core.Bool.{not, false}
 use borrow.Author.Count.{below-none, below-more}
 use Rattle.basics.proofs.First.{first-is, first-none}

@@ -6,8 +6,6 @@ use Rattle.basics.proofs.First.{first-le}
 use Rattle.placing.specs.Placing.{placed}
 use Rattle.search.proofs.Reporting.{report-none, report-some}
 use native.Mathlib.Omega.{arith}
-use mathlib.Core.Path.{_≡_, refl, sym, _∙_, ap}
-use Rattle.search.specs.Answering.{reportOf, numberFor, placeFor}
 use Rattle.search.proofs.report.report.Statement.{statement}
 use Rattle.search.proofs.report.report.Tie as tie
 

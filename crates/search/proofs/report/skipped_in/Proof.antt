@@ -1,9 +1,8 @@
 -- `skipped_in` counts one place in each turn.
 use mathlib.Core.Bool.{Bool, not}
 use native.Mathlib.Omega.{arith}
-use Prim.Native.Nat.{ℕ, _+_, _-_, _≤_}
-use mathlib.Core.Path.{_≡_, refl, sym, _∙_, ap}
-use mathlib.Core.Bool.{not}
+use Prim.Native.Nat.{ℕ, _-_, _≤_}
+use mathlib.Core.Path.{_≡_, sym, _∙_, ap}
 use mathlib.Core.Logic.{⊎-elim}
 use Rattle.basics.specs.Choose.{asNumber}
 use Rattle.basics.specs.Sums.{countOf}

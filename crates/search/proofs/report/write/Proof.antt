@@ -3,9 +3,7 @@ use mathlib.Core.List.{List, _++_}
 use lib.ListN.{length, getD, set, take, drop, length-set}
 use native.Mathlib.Omega.{arith}
 use Prim.Native.Nat.{ℕ, _-_, _≤_}
-use mathlib.Core.Path.{_≡_, refl, sym, _∙_, ap}
-use mathlib.Core.List.{_++_}
-use lib.ListN.{length, take, drop}
+use mathlib.Core.Path.{_≡_, refl, _∙_, ap}
 use Rattle.search.proofs.Reporting.{copied}
 use borrow.Author.Needs.{needs}
 use Rattle.search.proofs.report.write.Statement.{statement}

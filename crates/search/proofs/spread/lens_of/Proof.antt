@@ -1,7 +1,6 @@
 -- `lens_of` stores one length in each turn.
 use native.Mathlib.Omega.{arith}
-use Prim.Native.Nat.{ℕ, _-_, _≤_, _<_}
-use lib.ListN.{getD}
+use Prim.Native.Nat.{_-_, _≤_}
 use Rattle.search.proofs.Spreading.{Measuring, measuring-next}
 use borrow.Author.Needs.{needs}
 use Rattle.search.proofs.spread.lens_of.Statement.{statement}

@@ -1,7 +1,6 @@
 -- `links_of` stores one path in each turn.
 use native.Mathlib.Omega.{arith}
-use Prim.Native.Nat.{ℕ, _-_, _≤_, _<_}
-use lib.ListN.{getD}
+use Prim.Native.Nat.{_-_}
 use Rattle.search.proofs.Spreading.{Spreading, spreading-next}
 use borrow.Author.Needs.{needs}
 use Rattle.search.proofs.spread.links_of.Statement.{statement}

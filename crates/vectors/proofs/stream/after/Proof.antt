@@ -1,5 +1,5 @@
 -- `vectors::stream::after` is safe and ends: the place is below the length, and the measure is what is left of it.
-use Prim.Native.Nat.{_≤_, _-_}
+use Prim.Native.Nat.{_-_}
 use mathlib.Core.Path.{_≡_}
 use borrow.Author.Needs.{needs}
 use lib.ListN.{length}
