@@ -123,4 +123,9 @@ bool read_frame(const std::string& frames, std::size_t& place, std::string& text
   return true;
 }
 
+std::string write_pair(const std::string& text, const std::string& answer, u64 most) {
+  if (text.size() + answer.size() > most) return "";
+  return "text " + write_frame(text) + write_frame(answer);
+}
+
 }  // namespace oracle

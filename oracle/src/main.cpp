@@ -90,6 +90,18 @@ int run_frames() {
   return 0;
 }
 
+// Runs framed texts and writes each with its answer, if they have together at most so many bytes.
+int pair_frames(u64 most) {
+  const std::string frames = read_all(stdin);
+  std::size_t place = 0;
+  while (place < frames.size()) {
+    std::string text;
+    if (!oracle::read_frame(frames, place, text)) return fault("a frame is bad");
+    put(oracle::write_pair(text, oracle::run_text(text), most));
+  }
+  return 0;
+}
+
 // Generates cases of a kind; false if there is no such kind.
 bool generate(const std::string& kind, u64 seed, u64 count) {
   using oracle::Work;
@@ -130,6 +142,7 @@ int choose(int count, char** words) {
     return 0;
   }
   if (name == "runs" && count == 2) return run_frames();
+  if (name == "pairs" && count == 3) return pair_frames(std::strtoull(words[2], nullptr, 10));
   if (name == "call" && count == 2) return call_lines(false);
   if (name == "call" && count == 3 && std::strcmp(words[2], "literal") == 0) return call_lines(true);
   if (name == "replay" && count == 3) return replay_lines(std::strtoull(words[2], nullptr, 10));
@@ -146,5 +159,6 @@ int main(int count, char** words) {
   const int status = choose(count, words);
   if (status >= 0) return status;
   return fault(
-      "run | runs | call [literal] | replay N | generate texts|searches|heavy|checks SEED COUNT | time FILE [RUNS]");
+      "run | runs | pairs MOST | call [literal] | replay N | generate texts|searches|heavy|checks SEED COUNT | "
+      "time FILE [RUNS]");
 }

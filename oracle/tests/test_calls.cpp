@@ -50,11 +50,20 @@ void test_frames() {
   }
 }
 
+// A text with its answer, and a limit that both just keep or just pass.
+void test_pairs() {
+  about("pairs");
+  CLAIM_TEXT(oracle::write_pair("a\n3", "none\n", 8), "text 3\na\n35\nnone\n");
+  CLAIM_TEXT(oracle::write_pair("", "none\n", 5), "text 0\n5\nnone\n");
+  CLAIM_TEXT(oracle::write_pair("a\n3", "none\n", 7), "");
+}
+
 }  // namespace
 
 void test_calls() {
   test_lines();
   test_frames();
+  test_pairs();
 }
 
 }  // namespace oracle_tests

@@ -1,6 +1,7 @@
 // Runs the outside vectors, made by the independent program, against the library and compares the answers in full.
 mod answers;
 mod stream;
+mod texts;
 mod vector;
 
 use answers::Told;
@@ -34,7 +35,14 @@ fn aloud(run: Run) -> bool {
 }
 
 // The run after one vector more, or over.
-fn one_more(buffer: &mut [u8], run: Run, numbers: &mut [u32], table: &mut [u32]) -> Run {
+fn one_more(
+    buffer: &mut [u8],
+    run: Run,
+    numbers: &mut [u32],
+    table: &mut [u32],
+    text: &mut [u8],
+    wanted: &mut [u8],
+) -> Run {
     let stream = filled(buffer, run.stream);
     if ended(stream) {
         return Run {
@@ -49,7 +57,7 @@ fn one_more(buffer: &mut [u8], run: Run, numbers: &mut [u32], table: &mut [u32])
         number: all,
         aloud: aloud(run),
     };
-    let outcome = next_vector(buffer, stream, numbers, table, told);
+    let outcome = next_vector(buffer, stream, numbers, table, text, wanted, told);
     let next = outcome.stream;
     Run {
         all,
@@ -64,7 +72,14 @@ fn one_more(buffer: &mut [u8], run: Run, numbers: &mut [u32], table: &mut [u32])
 }
 
 // The run to the end of a file, or to the first vector that has not the form asked for.
-fn run_all(buffer: &mut [u8], file: i32, numbers: &mut [u32], table: &mut [u32]) -> Run {
+fn run_all(
+    buffer: &mut [u8],
+    file: i32,
+    numbers: &mut [u32],
+    table: &mut [u32],
+    text: &mut [u8],
+    wanted: &mut [u8],
+) -> Run {
     let mut run = Run {
         all: 0,
         agreed: 0,
@@ -72,7 +87,7 @@ fn run_all(buffer: &mut [u8], file: i32, numbers: &mut [u32], table: &mut [u32])
         over: false,
     };
     for _ in 0..VECTORS {
-        run = one_more(buffer, run, numbers, table);
+        run = one_more(buffer, run, numbers, table, text, wanted);
         if run.over {
             return run;
         }
@@ -99,8 +114,18 @@ fn run_file(name: &[u8]) {
     let mut buffer = io::large_buffer();
     let mut numbers = [0u32; 1024];
     let mut table = [0u32; 2048];
+    let mut text = [0u8; 8448];
+    let mut wanted = [0u8; 65536];
     let file = os::open_read(name);
-    put_run(name, run_all(&mut buffer, file, &mut numbers, &mut table));
+    let run = run_all(
+        &mut buffer,
+        file,
+        &mut numbers,
+        &mut table,
+        &mut text,
+        &mut wanted,
+    );
+    put_run(name, run);
     libc::close(file);
 }
 
@@ -108,4 +133,5 @@ fn main() {
     run_file(b"checks");
     run_file(b"paths");
     run_file(b"searches");
+    run_file(b"texts");
 }

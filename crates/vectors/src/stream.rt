@@ -1,4 +1,4 @@
-// A file of vectors, read byte by byte through a lent buffer: words, numbers and lists of numbers.
+// A file of vectors, read byte by byte through a lent buffer: words, numbers, lists of numbers and texts.
 ghost use Prim.Native.Nat.{_≤_};
 
 // The greatest number of 32 bits.
@@ -197,6 +197,45 @@ pub fn next_list(buffer: &mut [u8], stream: Stream, list: &mut [u32]) -> List {
         list[i] = small.value;
     }
     List { len, stream: s }
+}
+
+// The next text, its length first, into a lent array; one that is longer than the array spoils the stream.
+pub fn next_text(buffer: &mut [u8], stream: Stream, text: &mut [u8]) -> List {
+    let count = next_number(buffer, stream, text.len() as u64);
+    let len = count.value as usize;
+    let mut s = count.stream;
+    for i in 0..len {
+        let step = next_byte(buffer, s);
+        s = step.stream;
+        text[i] = step.byte;
+    }
+    List { len, stream: s }
+}
+
+// Whether a piece stands at a place of a text.
+pub fn stands_at(text: &[u8], at: usize, piece: &[u8]) -> bool {
+    if text.len() < at {
+        return false;
+    }
+    let rest = &text[at..];
+    if rest.len() < piece.len() {
+        return false;
+    }
+    for i in 0..piece.len() {
+        if rest[i] != piece[i] {
+            return false;
+        }
+    }
+    true
+}
+
+// The first bytes of an array.
+pub fn front(text: &[u8], len: usize) -> &[u8] {
+    if len <= text.len() {
+        &text[0..len]
+    } else {
+        text
+    }
 }
 
 // The first numbers of an array.

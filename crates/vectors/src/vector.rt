@@ -14,6 +14,7 @@ use crate::stream::next_number;
 use crate::stream::next_small;
 use crate::stream::part;
 use crate::stream::spoilt;
+use crate::texts::text_vector;
 use audit::check;
 use model::Mesh;
 use search::search;
@@ -204,6 +205,8 @@ pub fn next_vector(
     stream: Stream,
     numbers: &mut [u32],
     table: &mut [u32],
+    text: &mut [u8],
+    wanted: &mut [u8],
     told: Told,
 ) -> Outcome {
     let first = next_byte(buffer, stream);
@@ -216,6 +219,10 @@ pub fn next_vector(
         b's' => {
             let call = after(buffer, first.stream, b"earch ");
             search_vector(buffer, call, numbers, table, told)
+        }
+        b't' => {
+            let call = after(buffer, first.stream, b"ext ");
+            text_vector(buffer, call, table, text, wanted, told)
         }
         _ => Outcome {
             agrees: false,

@@ -1,0 +1,83 @@
+-- A line fits its buffer, no more lines are walked than there can be, and so the place stays small.
+use mathlib.Core.Path.{_≡_, sym, _∙_}
+use lib.Seq.{length-take-le}
+use Prim.Native.Nat.{_-_, _*_, _≤_}
+use native.Mathlib.Omega.{arith}
+use lib.ListN.{length}
+use Rattle.text.proofs.Pieces.{piece-fits}
+use borrow.Author.Needs.{needs}
+use Rattle.vectors.proofs.texts.walked.Statement.{statement}
+use Rattle.vectors.proofs.texts.walked.Tie as tie
+
+abbrev Inv-loop : tie.InvT-loop
+Inv-loop table wanted answer flow turn line₀ cursor₀ at₀ counter₀ line cursor at counter = (counter ≤ 1026) × (length line ≡ 96) × (length flow ≡ 1024) × (length turn ≡ 1024) × (at ≤ 96 * counter)
+
+abbrev μ-loop : tie.MeasureT-loop
+μ-loop table wanted answer flow turn line₀ cursor₀ at₀ counter₀ line cursor at counter = 1026 - counter
+
+loop-holds : tie.Need-loop-holds Inv-loop μ-loop
+loop-holds c = (omega arith, search needs, search needs, search needs, omega arith)
+
+slice-aggregate-put-piece : tie.Need-slice-aggregate-put-piece Inv-loop μ-loop
+slice-aggregate-put-piece c = search needs
+
+slice-aggregate-put-piece-2 : tie.Need-slice-aggregate-put-piece-2 Inv-loop μ-loop
+slice-aggregate-put-piece-2 c = search needs
+
+slice-aggregate-put-piece-3 : tie.Need-slice-aggregate-put-piece-3 Inv-loop μ-loop
+slice-aggregate-put-piece-3 c = search needs
+
+put-piece-requires : tie.Need-put-piece-requires Inv-loop μ-loop
+put-piece-requires c κs = search needs
+
+array-share-prefix-line : tie.Need-array-share-prefix-line Inv-loop μ-loop
+array-share-prefix-line c = piece-fits _ _ _ _ _ _ _ _ (c .before .put-piece .ensures)
+
+slice-aggregate-stands-at : tie.Need-slice-aggregate-stands-at Inv-loop μ-loop
+slice-aggregate-stands-at c = sym (length-take-le (c .before .before .put-piece .result .len) (c .before .before .put-piece .last .1 .1 .1 .1 .1 .0) (piece-fits _ _ _ _ _ _ _ _ (c .before .before .put-piece .ensures)))
+
+stands-at-requires : tie.Need-stands-at-requires Inv-loop μ-loop
+stands-at-requires c κs = search needs
+
+returns : tie.Need-returns Inv-loop μ-loop
+returns c = search needs
+
+add-at : tie.Need-add-at Inv-loop μ-loop
+add-at c = omega (arith, piece-fits _ _ _ _ _ _ _ _ (c .before .before .before .before .put-piece .ensures), c .before .before .before .before .put-piece .kept .1 .1 .1 .1 .1 .0 ∙ c .before .before .before .before .before .before .before .before .before .loop .inv .1, c .before .before .before .before .before .before .before .before .before .loop .inv .4, c .before .before .before .before .before .before .before .before .loop-test .taken)
+
+returns-2 : tie.Need-returns-2 Inv-loop μ-loop
+returns-2 c = search needs
+
+add-counter : tie.Need-add-counter Inv-loop μ-loop
+add-counter c = search needs
+
+loop-less : tie.Need-loop-less Inv-loop μ-loop
+loop-less c = search needs
+
+loop-again : tie.Need-loop-again Inv-loop μ-loop
+loop-again c = (omega (arith, c .before .before .before .before .before .before .before .before .before .loop-test .taken, c .before .before .before .before .before .before .before .before .before .before .loop .inv .0), c .before .before .before .before .before .put-piece .kept .1 .1 .1 .1 .1 .0 ∙ c .before .before .before .before .before .before .before .before .before .before .loop .inv .1, c .before .before .before .before .before .before .before .before .before .before .loop .inv .2, c .before .before .before .before .before .before .before .before .before .before .loop .inv .3, omega (arith, piece-fits _ _ _ _ _ _ _ _ (c .before .before .before .before .before .put-piece .ensures), c .before .before .before .before .before .put-piece .kept .1 .1 .1 .1 .1 .0 ∙ c .before .before .before .before .before .before .before .before .before .before .loop .inv .1, c .before .before .before .before .before .before .before .before .before .before .loop .inv .4))
+
+returns-3 : tie.Need-returns-3 Inv-loop μ-loop
+returns-3 c = search needs
+
+pub walked-spec : {M : Type 1} → statement M
+walked-spec =
+    tie.close
+    (tie.spec
+    Inv-loop
+    μ-loop
+    loop-holds
+    slice-aggregate-put-piece
+    slice-aggregate-put-piece-2
+    slice-aggregate-put-piece-3
+    put-piece-requires
+    array-share-prefix-line
+    slice-aggregate-stands-at
+    stands-at-requires
+    returns
+    add-at
+    returns-2
+    add-counter
+    loop-less
+    loop-again
+    returns-3)
