@@ -10,7 +10,7 @@ use Rattle.search.proofs.report.report.Statement.{statement}
 use Rattle.search.proofs.report.report.Tie as tie
 
 write-requires : tie.Need-write-requires
-write-requires c κs = (c .before .before .before .before .pre .0, c .before .before .before .before .pre .1, c .before .before .before .before .pre .2)
+write-requires c κs = (c .before .before .before .before .pre .0, omega (arith, c .before .before .before .before .pre .1), omega (arith, c .before .before .before .before .pre .2))
 
 skipped-in-requires : tie.Need-skipped-in-requires
 skipped-in-requires c κs = (c .before .before .before .before .before .before .before .before .pre .0, c .before .before .before .before .before .before .before .before .pre .1)
@@ -25,7 +25,9 @@ same-length : tie.Need-same-length
 same-length c = search needs
 
 returns : tie.Need-returns
-returns c = (report-none (c .before .before .before .before .before .before .before .before .before .before .before .before .args .found) (c .before .before .before .before .before .before .before .before .before .before .before .before .args .hyper) (c .before .before .before .before .before .before .before .before .before .before .before .before .args .n) (c .before .before .before .skipped-in .result) (c .before .before .before .skipped-in .ensures) (c .if1 .taken), c .before .before .before .before .before .before .before .write .ensures)
+returns c =
+    let a = c .before .before .before .before .before .before .before .before .before .before .before .before .args in
+    (report-none (a .found) (a .hyper) (a .n) (c .before .before .before .skipped-in .result) (c .before .before .before .skipped-in .ensures) (c .if1 .taken), c .before .before .before .before .before .before .before .write .ensures)
 
 cast-t16 : tie.Need-cast-t16
 cast-t16 c = omega (arith, c .before .lowest-in .ensures, first-le (λ (p : ℕ). not (placed (c .before .before .before .before .before .before .before .before .before .before .before .before .args .found .times) p)) (c .before .before .before .before .before .before .before .before .before .before .before .before .args .n), c .before .before .before .before .before .before .before .before .before .before .before .before .pre .1)
@@ -37,7 +39,9 @@ same-length-2 : tie.Need-same-length-2
 same-length-2 c = search needs
 
 returns-2 : tie.Need-returns-2
-returns-2 c = (report-some (c .before .before .before .before .before .before .before .before .before .before .before .before .args .found) (c .before .before .before .before .before .before .before .before .before .before .before .before .args .hyper) (c .before .before .before .before .before .before .before .before .before .before .before .before .args .n) (c .before .before .before .skipped-in .result) (c .before .before .before .skipped-in .ensures) (c .before .lowest-in .result) (c .before .lowest-in .ensures) (c .if1 .left), c .before .before .before .before .before .before .before .write .ensures)
+returns-2 c =
+    let a = c .before .before .before .before .before .before .before .before .before .before .before .before .args in
+    (report-some (a .found) (a .hyper) (a .n) (c .before .before .before .skipped-in .result) (c .before .before .before .skipped-in .ensures) (c .before .lowest-in .result) (c .before .lowest-in .ensures) (c .if1 .left), c .before .before .before .before .before .before .before .write .ensures)
 
 pub report-spec : {M : Type 1} → statement M
 report-spec =
