@@ -15,10 +15,10 @@ use Rattle.packet.specs.Packet.{Packet}
 use Rattle.packet.specs.Table.{passes}
 use Rattle.packet.proofs.Table.{start-inside, meets-higher, meets-collide, passes-all}
 use Rattle.placing.specs.Placing.{none, placed}
-use Rattle.placing.specs.Order.{sorted, slackAt}
+use Rattle.placing.specs.Order.{sorted}
 use Rattle.placing.proofs.Ordering.{sorted-below}
 use Rattle.passes.specs.Pass.{passFrom, passOver}
-use Rattle.passes.specs.Passes.{passesFrom, ceiling, searchOf, skippedIn}
+use Rattle.passes.specs.Passes.{passesFrom, ceiling, searchBy, skippedIn}
 use Rattle.passes.proofs.Along.{along}
 use Rattle.passes.proofs.Fuel.{spent-none, over-each, passes-end, passes-on, fuel-same}
 use Rattle.passes.proofs.Sound.{Fitting, Safe, safe-start, safe-more}
@@ -64,32 +64,32 @@ passes-good ps f g fitting (suc fuel) list fails n tries each =
     go false w ih = rw (passes-on fuel ps f g list fails n tries w) ih
 
 -- the list at the start holds packets
-list-start : (ps : List Packet) → Each (λ (q : ℕ). q < length ps) (sorted (slackAt ps) 0 (length ps))
-list-start ps =
-    each-map (λ (q : ℕ). q < 0 + length ps) (λ (q : ℕ). q < length ps) (λ q h. omega arith) (sorted (slackAt ps) 0 (length ps))
-    (sorted-below (slackAt ps) 0 (length ps))
+list-start : (key : ℕ → ℕ) (ps : List Packet) → Each (λ (q : ℕ). q < length ps) (sorted key 0 (length ps))
+list-start key ps =
+    each-map (λ (q : ℕ). q < 0 + length ps) (λ (q : ℕ). q < length ps) (λ q h. omega arith) (sorted key 0 (length ps))
+    (sorted-below key 0 (length ps))
 
-module _ (ps : List Packet) (f g : ℕ) where
+module _ (key : ℕ → ℕ) (ps : List Packet) (f g : ℕ) where
   -- more fuel changes nothing: the bound on the passes is never what ends the search
   pub more-fuel : (extra : ℕ)
-      → passesFrom (ceiling (length ps) g + extra) ps f g (sorted (slackAt ps) 0 (length ps)) (replicate (length ps) 0) 0 0 ≡ searchOf ps f g
-  unfolding searchOf ceiling
+      → passesFrom (ceiling (length ps) g + extra) ps f g (sorted key 0 (length ps)) (replicate (length ps) 0) 0 0 ≡ searchBy key ps f g
+  unfolding searchBy ceiling
   more-fuel extra =
-      fuel-same ps f g (ceiling (length ps) g + extra) (ceiling (length ps) g) (sorted (slackAt ps) 0 (length ps)) (replicate (length ps) 0) 0 0
-      (list-start ps) (length-replicate {A = ℕ} (length ps) 0)
+      fuel-same ps f g (ceiling (length ps) g + extra) (ceiling (length ps) g) (sorted key 0 (length ps)) (replicate (length ps) 0) 0 0
+      (list-start key ps) (length-replicate {A = ℕ} (length ps) 0)
       (omega (arith, spent-none (length ps) g)) (omega (arith, spent-none (length ps) g))
 
   module _ (fitting : Fitting ps) where
-    good : Good ps (searchOf ps f g .table)
-    unfolding searchOf
-    good = passes-good ps f g fitting (ceiling (length ps) g) (sorted (slackAt ps) 0 (length ps)) (replicate (length ps) 0) 0 0 (list-start ps)
+    good : Good ps (searchBy key ps f g .table)
+    unfolding searchBy
+    good = passes-good ps f g fitting (ceiling (length ps) g) (sorted key 0 (length ps)) (replicate (length ps) 0) 0 0 (list-start key ps)
 
     -- the table has as many places as there are packets
-    pub search-length : length (searchOf ps f g .table) ≡ length ps
+    pub search-length : length (searchBy key ps f g .table) ≡ length ps
     search-length = good .long
 
     -- every placed packet is in its start range, and no two placed packets collide
-    pub search-safe : Safe ps (searchOf ps f g .table)
+    pub search-safe : Safe ps (searchBy key ps f g .table)
     search-safe = good .safe
 
 -- ---- a complete search

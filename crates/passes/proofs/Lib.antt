@@ -2,10 +2,11 @@
 pub mod Parts
 pub mod PassSteps
 pub mod Stepping
+pub mod Failing
 pub mod Running
 pub mod Along
 pub mod Fuel
-pub mod Slack
+pub mod Start
 pub mod Searching
 pub mod Sound
 pub mod Complete

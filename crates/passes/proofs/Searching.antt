@@ -10,15 +10,14 @@ use lib.Seq.{slice, length-slice, length-take-le, getD-take, getD-drop}
 use Rattle.basics.proofs.Each.{Each}
 use Rattle.packet.specs.Packet.{Packet}
 use Rattle.placing.specs.Kept.{Load}
-use Rattle.placing.specs.Lists.{keyIn}
 use Rattle.placing.specs.Order.{sorted}
 use Rattle.passes.specs.Pass.{Pass, passOver}
-use Rattle.passes.specs.Passes.{passesFrom, ceiling, searchOf}
+use Rattle.passes.specs.Passes.{passesFrom, ceiling, searchBy}
 use Rattle.passes.specs.State.{passedOf, Ready, Carried, Ran}
-use Rattle.passes.specs.Search.{foundOf, Slacks, Searched}
+use Rattle.passes.specs.Search.{foundOf, Searched}
 use Rattle.passes.specs.declared.walk.Passed.{Passed}
 use Rattle.passes.proofs.Running.{take-replicate}
-use Rattle.passes.proofs.Slack.{order-same, carried-start}
+use Rattle.passes.proofs.Start.{carried-start}
 use Rattle.passes.proofs.Fuel.{spent, spent-most, spent-none, over-spent, passes-end, passes-on}
 
 -- what holds at each place of a list holds of each of it
@@ -36,28 +35,29 @@ list-in ps g order fails base few c =
     (c .numbers (base + i) l))
 
 -- where the search stands before a pass: so many passes were begun, each used up one, and what is left to do gives the result
-pub record Stands (ps : List Packet) (f g : ℕ) (order fails : List ℕ) (base passes tries : ℕ) : Type 0 where
+pub record Stands (key : ℕ → ℕ) (ps : List Packet) (f g : ℕ) (order fails : List ℕ) (base passes tries : ℕ) : Type 0 where
   pub carried : Carried ps g order fails base
   pub used : spent (length ps) g (take (length ps) fails) ≡ passes
-  pub same : passesFrom (ceiling (length ps) g - passes) ps f g (slice base (length ps) order) (take (length ps) fails) passes tries ≡ searchOf ps f g
+  pub same : passesFrom (ceiling (length ps) g - passes) ps f g (slice base (length ps) order) (take (length ps) fails) passes tries ≡ searchBy key ps f g
   pub bounded : tries ≤ passes * 34359738368
 
 -- for all packets that the arrays hold
-pub record Searching (load : Load) (release due : List ℕ) (longest f g n : ℕ) (order fails : List ℕ) (base passes tries : ℕ) : Type 0 where
-  pub stands : (ps : List Packet) → Ready ps load release due longest f g → n ≡ length ps → Stands ps f g order fails base passes tries
+pub record Searching (key : ℕ → ℕ) (load : Load) (release due : List ℕ) (longest f g n : ℕ) (order fails : List ℕ) (base passes tries : ℕ) : Type 0 where
+  pub stands : (ps : List Packet) → Ready ps load release due longest f g → n ≡ length ps → Stands key ps f g order fails base passes tries
 
-module _ (load : Load) (release due : List ℕ) (longest f g n : ℕ) where
+module _ {key : ℕ → ℕ} {load : Load} {release due : List ℕ} {longest f g n : ℕ} where
   -- it starts
-  pub searching-start : (key order fails : List ℕ) → Slacks (load .flow) (load .occupancy) due n key → length order ≡ 1024
-      → fails ≡ replicate 1024 0 → take n order ≡ sorted (keyIn key) 0 n → Searching load release due longest f g n order fails 0 0 0
-  unfolding searchOf
-  searching-start key order fails s long z e = record {
+  pub searching-start : {order fails : List ℕ} → length order ≡ 1024 → fails ≡ replicate 1024 0 → take n order ≡ sorted key 0 n
+      → Searching key load release due longest f g n order fails 0 0 0
+  unfolding searchBy
+  searching-start {order} {fails} long z e = record {
     stands = λ ps ready count.
-        let list = order-same ps load release due longest f g ready n key order count s e in
+        let list : slice 0 (length ps) order ≡ sorted key 0 (length ps) =
+        ap (λ (k : ℕ). take k order) (sym count) ∙ e ∙ ap (sorted key 0) count in
         let none : take (length ps) fails ≡ replicate (length ps) 0 = ap (take (length ps)) z ∙ take-replicate (length ps) 1024 0 (ready .held .few) in
         let all : ceiling (length ps) g - 0 ≡ ceiling (length ps) g = omega arith in
         record {
-          carried = carried-start ps load release due longest f g ready order fails long z list;
+          carried = carried-start key ps g (ready .low) order fails long z list;
           used = ap (spent (length ps) g) none ∙ spent-none (length ps) g;
           same =
               ap (λ (k : ℕ). passesFrom k ps f g (slice 0 (length ps) order) (take (length ps) fails) 0 0) all
@@ -66,8 +66,8 @@ module _ (load : Load) (release due : List ℕ) (longest f g n : ℕ) where
         };
   }
 
-  module _ (order fails : List ℕ) (base passes tries : ℕ) (s : Searching load release due longest f g n order fails base passes tries)
-      (ps : List Packet) (ready : Ready ps load release due longest f g) (count : n ≡ length ps) where
+  module _ {order fails : List ℕ} {base passes tries : ℕ} (s : Searching key load release due longest f g n order fails base passes tries)
+      {ps : List Packet} (ready : Ready ps load release due longest f g) (count : n ≡ length ps) where
     -- fewer passes were begun than there can be
     pub passes-few : passes ≤ length ps * (g - 1)
     passes-few = let t = s .stands ps ready count in omega (arith, t .used, spent-most (length ps) g (take (length ps) fails))
@@ -76,9 +76,9 @@ module _ (load : Load) (release due : List ℕ) (longest f g n : ℕ) where
     unfolding ceiling
     left = omega (arith, passes-few)
 
-    module _ (order′ fails′ : List ℕ) (r : Passed) (ran : Ran ps f g order fails base order′ fails′ r) where
+    module _ {order′ fails′ : List ℕ} {r : Passed} (ran : Ran ps f g order fails base order′ fails′ r) where
       -- one pass was broken off
-      pub stands-on : r .whole ≡ false → Stands ps f g order′ fails′ (r .base) (passes + 1) (tries + r .tries)
+      pub stands-on : r .whole ≡ false → Stands key ps f g order′ fails′ (r .base) (passes + 1) (tries + r .tries)
       unfolding passedOf
       stands-on w =
           let t = s .stands ps ready count in
@@ -101,7 +101,7 @@ module _ (load : Load) (release due : List ℕ) (longest f g n : ℕ) where
           }
 
       -- one pass ran to the end
-      pub stands-end : r .whole ≡ true → Searched ps f g record { times = r .times; passes = passes + 1; tries = tries + r .tries }
+      pub stands-end : r .whole ≡ true → Searched ps key f g record { times = r .times; passes = passes + 1; tries = tries + r .tries }
       unfolding passedOf foundOf
       stands-end w =
           let t = s .stands ps ready count in

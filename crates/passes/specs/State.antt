@@ -84,6 +84,20 @@ pub record Going (ps : List Packet) (g : ℕ) (s : State) : Type 0 where
   pub ahead : (q : ℕ) → placed (take (length ps) (s .times)) q ≡ true → occurs q (slice (s .at) (length ps) (s .order)) ≡ 0
   pub bounded : s .tries ≤ s .at * 33554432
 
+-- what a packet's taking a time asks: room among the placed packets, and a place in the table
+pub record Settles (by : List ℕ) (count : ℕ) (times : List ℕ) (packet : ℕ) : Type 0 where
+  pub kept : Kept by count times
+  pub by-long : length by ≡ 1024
+  pub times-long : length times ≡ 1024
+  pub room : count < 1024
+  pub within : packet < 1024
+
+-- what a fail count's rising asks: that it is at most 16
+pub record Raises (fails : List ℕ) (p : ℕ) : Type 0 where
+  pub long : length fails ≡ 1024
+  pub within : p < 1024
+  pub low : getD fails p 0 ≤ 16
+
 -- what a step asks: some packets that the arrays hold, a pass that goes on, and a packet to be taken
 pub record Steps (load : Load) (release due : List ℕ) (longest f g : ℕ) (s : State) : Type 0 where
   pub ps : List Packet

@@ -1,13 +1,14 @@
-// The passes, from the list in order of least slack, until one runs to the end of its list.
+// The passes, from the list in order of a key, until one runs to the end of its list.
 use crate::walk::pass;
 use placing::in_order;
 ghost use mathlib.Core.Path.{_≡_};
 ghost use mathlib.Core.List.{List};
 ghost use lib.ListN.{length};
 ghost use Rattle.packet.specs.Packet.{Packet};
+ghost use Rattle.placing.specs.Lists.{keyIn};
 ghost use Rattle.placing.specs.Kept.{loadOf};
 ghost use Rattle.passes.specs.State.{Ready};
-ghost use Rattle.passes.specs.Search.{Searches, Searched, Keyed, Slacks};
+ghost use Rattle.passes.specs.Search.{Searches, Searched};
 
 // What the passes leave: the table, the passes begun, and the times tried.
 pub struct Outcome {
@@ -16,22 +17,10 @@ pub struct Outcome {
     pub tries: u64,
 }
 
-// The slack of each packet, D − occupancy; 0 past them.
-fn slacks(flow: &[u16; 1024], occupancy: &[u32; 64], due: &[u32; 64], n: usize) -> [u64; 1024]
-    requires { ⌜ Keyed (now flow) (now occupancy) (now due) n ⌝ }
-    ensures { λ r. ⌜ Slacks (now (flow .entry)) (now (occupancy .entry)) (now (due .entry)) n r ⌝ }
-{
-    let mut key = [0u64; 1024];
-    for p in 0..n {
-        let own = flow[p] as usize;
-        key[p] = (due[own] - occupancy[own]) as u64;
-    }
-    key
-}
-
 // The passes: one that is broken off is followed by a new one, one that runs to the end is the result. The fail counts are never set
 // back.
 pub fn rounds(
+    key: &[u64; 1024],
     n: usize,
     flow: &[u16; 1024],
     occupancy: &[u32; 64],
@@ -43,11 +32,10 @@ pub fn rounds(
     pruning: u32,
     threshold: u32,
 ) -> Outcome
-    requires { ⌜ Searches (loadOf (now flow) (now occupancy) (now lens) (now links)) (now release) (now due) longest pruning threshold n ⌝ }
-    ensures { λ r. ⌜ ((ps : List Packet) → Ready ps (loadOf (now (flow .entry)) (now (occupancy .entry)) (now (lens .entry)) (now (links .entry))) (now (release .entry)) (now (due .entry)) longest pruning threshold → n ≡ length ps → Searched ps pruning threshold r) ⌝ }
+    requires { ⌜ Searches (now key) (loadOf (now flow) (now occupancy) (now lens) (now links)) (now release) (now due) longest pruning threshold n ⌝ }
+    ensures { λ r. ⌜ ((ps : List Packet) → Ready ps (loadOf (now (flow .entry)) (now (occupancy .entry)) (now (lens .entry)) (now (links .entry))) (now (release .entry)) (now (due .entry)) longest pruning threshold → n ≡ length ps → Searched ps (keyIn (now (key .entry))) pruning threshold r) ⌝ }
 {
-    let key = slacks(flow, occupancy, due, n);
-    let mut order = in_order(&key, n);
+    let mut order = in_order(key, n);
     let mut fails = [0u8; 1024];
     let mut base = 0;
     let mut passes: u32 = 0;

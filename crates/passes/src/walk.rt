@@ -6,10 +6,12 @@ use placing::put_in;
 ghost use mathlib.Core.Path.{_≡_};
 ghost use mathlib.Core.List.{List};
 ghost use Prim.Native.Nat.{_<_};
-ghost use lib.ListN.{length};
+ghost use lib.ListN.{length, set};
 ghost use Rattle.packet.specs.Packet.{Packet};
 ghost use Rattle.placing.specs.Kept.{loadOf};
-ghost use Rattle.passes.specs.State.{stateOf, Ready, Carried, Going, Steps, Stepped, Runs, Ran};
+ghost use Rattle.placing.specs.Held.{keptWith};
+ghost use Rattle.passes.specs.Pass.{raised};
+ghost use Rattle.passes.specs.State.{stateOf, Ready, Carried, Going, Settles, Raises, Steps, Stepped, Runs, Ran};
 
 // Where a pass stands: the list is the order from base on, the packets before at are taken, count of them are placed.
 // Again: the pass was broken off, and a new one begins.
@@ -19,6 +21,32 @@ pub struct Walk {
     pub count: usize,
     pub tries: u64,
     pub again: bool,
+}
+
+// Packet p takes a time: it goes among the placed packets, and into its place of the table.
+fn settle(
+    times: &mut [u32; 1024],
+    by: &mut [u16; 1024],
+    count: usize,
+    packet: u16,
+    time: u32,
+)
+    requires { ⌜ Settles (now by) count (now times) packet ⌝ }
+    ensures { λ _. ⌜ (now (times .exit) ≡ set (now (times .entry)) packet time) × (now (by .exit) ≡ keptWith (now (by .entry)) count (now (times .entry)) time packet) ⌝ }
+{
+    keep(by, count, times, time, packet);
+    let p = packet as usize;
+    times[p] = time;
+}
+
+// The fail count of packet p rises by one.
+fn raise(fails: &mut [u8; 1024], p: usize) -> u8
+    requires { ⌜ Raises (now fails) p ⌝ }
+    ensures { λ r. ⌜ (r ≡ raised (now (fails .entry)) p) × (now (fails .exit) ≡ set (now (fails .entry)) p (raised (now (fails .entry)) p)) ⌝ }
+{
+    let fail = fails[p] + 1;
+    fails[p] = fail;
+    fail
 }
 
 // Takes the next packet. Placed, it stays in the list. Else its fail count rises and it goes to the front: below the threshold a new
@@ -63,8 +91,7 @@ fn step(
     );
     match placed {
         Placed::At { time, tries } => {
-            keep(by, count, times, time, packet);
-            times[p] = time;
+            settle(times, by, count, packet, time);
             Walk {
                 base,
                 at: at + 1,
@@ -74,8 +101,7 @@ fn step(
             }
         }
         Placed::Nowhere { tries } => {
-            let fail = fails[p] + 1;
-            fails[p] = fail;
+            let fail = raise(fails, p);
             put_in(order, base, at, packet);
             if (fail as u32) < threshold {
                 return Walk {
