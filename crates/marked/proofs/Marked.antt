@@ -21,12 +21,12 @@ use Rattle.model.specs.Answers.{refusedBy}
 use Rattle.placing.specs.Placing.{placed, inTheWay, free, timeOf, slotsOf, takenOf, placedBy, placingOf}
 use Rattle.placing.specs.Order.{insert, sorted, slackOf, slackAt}
 use Rattle.passes.specs.Pass.{raised, passFrom, passOver}
-use Rattle.passes.specs.Passes.{passesFrom, ceiling, searchOf, skippedIn, lowestSkipped}
+use Rattle.passes.specs.Passes.{passesFrom, ceiling, searchBy, skippedIn, lowestSkipped}
 use Rattle.search.specs.Answering.{badSettings, settingsRefusal, badTable, searchRefusal, numberFor, placeFor, foundAnswer, answerOf, tableAfter}
 use Rattle.audit.specs.Check.{tooShort, checkRefusal, collided, passedWith, firstMeeting, verdictOf, checkOf}
 use Rattle.marked.specs.Examples.{Example, occupancyAt, onOneLink, meshA, flowsA, inShort, inFull, examples}
 
 -- every marked example gives what the document says
 pub marked : map (λ (e : Example). e .gives) examples ≡ map (λ (e : Example). e .says) examples
-unfolding firstFrom first some tabulate sumOf countOf placeOf nodeAt apart distanceOf linkOf steps stepOf endOf towards leg alongRow alongColumn corner routeOf has shares flitsOf occupancyOf turnsOf latestOf overlaps gcdF gcdOf lcmOf lcmWith hyperOf mayStart collide packetAt timeAt outside meets meetsHigher numberOf sourceOf targetOf periodOf sizeOf dueOf flowsIn linksOfFlow occupancyIn periodsOf hyperIn turnsIn packetsIn packetOf packetsFrom packetsOf outsideOf badMesh badList badNodes badTimes tooLong badHyper badPackets refuseIf orElse flowRefusal badFlow flowsRefusal sumsRefusal refusalOf refusedBy placed inTheWay free timeOf slotsOf takenOf placedBy placingOf insert sorted slackOf slackAt raised passFrom passOver passesFrom ceiling searchOf skippedIn lowestSkipped badSettings settingsRefusal badTable searchRefusal numberFor placeFor foundAnswer answerOf tableAfter tooShort checkRefusal collided passedWith firstMeeting verdictOf checkOf occupancyAt onOneLink meshA flowsA inShort inFull examples
+unfolding firstFrom first some tabulate sumOf countOf placeOf nodeAt apart distanceOf linkOf steps stepOf endOf towards leg alongRow alongColumn corner routeOf has shares flitsOf occupancyOf turnsOf latestOf overlaps gcdF gcdOf lcmOf lcmWith hyperOf mayStart collide packetAt timeAt outside meets meetsHigher numberOf sourceOf targetOf periodOf sizeOf dueOf flowsIn linksOfFlow occupancyIn periodsOf hyperIn turnsIn packetsIn packetOf packetsFrom packetsOf outsideOf badMesh badList badNodes badTimes tooLong badHyper badPackets refuseIf orElse flowRefusal badFlow flowsRefusal sumsRefusal refusalOf refusedBy placed inTheWay free timeOf slotsOf takenOf placedBy placingOf insert sorted slackOf slackAt raised passFrom passOver passesFrom ceiling searchBy skippedIn lowestSkipped badSettings settingsRefusal badTable searchRefusal numberFor placeFor foundAnswer answerOf tableAfter tooShort checkRefusal collided passedWith firstMeeting verdictOf checkOf occupancyAt onOneLink meshA flowsA inShort inFull examples
 marked = refl

@@ -17,6 +17,7 @@ use Rattle.model.proofs.Accepted.{accepted-fair, fair-accepted}
 use Rattle.model.proofs.Numbering.{packets-length}
 use Rattle.model.proofs.Order.{or-none}
 use Rattle.audit.specs.Check.{checkOf}
+use Rattle.placing.specs.Order.{slackAt}
 use Rattle.passes.specs.Passes.{searchOf}
 use Rattle.passes.proofs.Complete.{search-length}
 use Rattle.search.specs.Answering.{settingsRefusal, searchRefusal, answerOf, tableAfter}
@@ -55,7 +56,7 @@ module _ (mesh : Mesh) (f g : ℕ) (numbers table : List ℕ) (complete : answer
           arith,
           ap length table-is,
           length-append (searchOf (packetsOf mesh numbers) f g .table) (drop (packetsIn numbers) table),
-          search-length (packetsOf mesh numbers) f g (model-sound mesh numbers fair .fits),
+          search-length (slackAt (packetsOf mesh numbers)) (packetsOf mesh numbers) f g (model-sound mesh numbers fair .fits),
           packets-length mesh numbers,
         );
   }

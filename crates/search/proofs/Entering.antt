@@ -26,6 +26,7 @@ use Rattle.model.proofs.Accepted.{accepted-fair, accepted-between}
 use Rattle.model.proofs.Numbering.{packets-length}
 use Rattle.model.proofs.Reading.{model-count}
 use Rattle.placing.specs.Placing.{none, placed}
+use Rattle.placing.specs.Order.{slackAt}
 use Rattle.passes.specs.Passes.{Found, searchOf, skippedIn, lowestSkipped}
 use Rattle.passes.specs.Search.{foundOf, Searched}
 use Rattle.passes.specs.declared.repeat.Outcome.{Outcome}
@@ -138,7 +139,7 @@ module _ (mesh : Mesh) (f g : ℕ) (numbers table : List ℕ) (e : refusalOf mes
   model-packets = ap (λ (m : Model). m .packets .count) is ∙ entry-count mesh f g numbers table e
 
   -- found: the answer, and the table
-  pub entry-found : (found : Outcome) → Searched (packetsOf mesh numbers) f g found → model .packets .count ≤ length table
+  pub entry-found : (found : Outcome) → Searched (packetsOf mesh numbers) (slackAt (packetsOf mesh numbers)) f g found → model .packets .count ≤ length table
       → (reportOf found (model .hyper) (model .packets .count) ≡ answerOf mesh f g numbers table)
       × (take (model .packets .count) (found .times) ++ drop (model .packets .count) table ≡ tableAfter mesh f g numbers table)
   unfolding modelOf foundOf

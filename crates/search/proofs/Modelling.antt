@@ -140,7 +140,7 @@ module _ (paths : List Path) (links lens : List ℕ) (spread : Spread paths link
       ∙ ap (λ (m : ℕ). take m (drop (q * 32) links)) (sym n)
 
 -- what the passes ask
-module _ (ps : List Packet) (model : Model) (f g : ℕ) (m : Modelled ps model f g) (links lens : List ℕ) (longest : ℕ)
+module _ {ps : List Packet} {model : Model} {f g : ℕ} (m : Modelled ps model f g) {links lens : List ℕ} {longest : ℕ}
     (spread : Spread (model .flows .path) links) (measured : Lens (model .flows .path) lens)
     (above : (q : ℕ) → q < 64 → getD (model .flows .occupancy) q 0 ≤ longest) where
   -- the arrays hold the packets

@@ -28,6 +28,7 @@ use Rattle.model.proofs.Order.{or-none}
 use Rattle.model.proofs.Numbering.{packets-length}
 use Rattle.model.proofs.InTime.{packets-in-time}
 use Rattle.placing.specs.Placing.{none, placed}
+use Rattle.placing.specs.Order.{slackAt}
 use Rattle.passes.specs.Passes.{Found, searchOf, skippedIn, lowestSkipped}
 use Rattle.passes.proofs.Sound.{Safe}
 use Rattle.passes.proofs.Complete.{search-length, search-safe, complete-passes, skipped-holds}
@@ -148,12 +149,12 @@ module _ (mesh : Mesh) (f g : ℕ) (numbers table : List ℕ) where
         packets-in-time mesh numbers (entry-fair mesh f g numbers table start-none) p (omega (arith, packets-length mesh numbers)) .fits
 
     long : length (found .table) ≡ length ps
-    long = search-length ps f g fitting
+    long = search-length (slackAt ps) ps f g fitting
 
     -- the table left is sound
     found-safe : Safe ps (tableAfter mesh f g numbers table)
     found-safe =
-        subst (Safe ps) (sym table-found) (safe-front ps (found .table) (drop (packetsIn numbers) table) long (search-safe ps f g fitting))
+        subst (Safe ps) (sym table-found) (safe-front ps (found .table) (drop (packetsIn numbers) table) long (search-safe (slackAt ps) ps f g fitting))
 
 -- where no number passes, none is counted
 count-no : (test : ℕ → Bool) (n : ℕ) → ((q : ℕ) → q < n → test q ≡ false) → countOf test n ≡ 0

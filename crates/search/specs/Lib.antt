@@ -1,3 +1,4 @@
--- The answer of the search, and the paths as its code holds them.
+-- The answer of the search, and the paths and slacks as its code holds them.
 pub mod Answering
 pub mod Spread
+pub mod Slack

@@ -1,4 +1,5 @@
 // The passes over a model: its paths go into one array of links, 32 places to a flow.
+use crate::keys::slacks;
 use mesh::Path;
 use model::Model;
 use passes::Outcome;
@@ -9,6 +10,7 @@ ghost use Prim.Native.Nat.{ℕ, _≤_, _<_, _*_};
 ghost use lib.ListN.{length, getD};
 ghost use lib.Seq.{paste};
 ghost use Rattle.packet.specs.Packet.{Packet};
+ghost use Rattle.placing.specs.Order.{slackAt};
 ghost use Rattle.passes.specs.Search.{Searched};
 ghost use Rattle.model.specs.Arrays.{noPath};
 ghost use Rattle.search.specs.Spread.{Spread, Lens, Modelled};
@@ -68,8 +70,9 @@ fn longest_of(occupancy: &[u32; 64]) -> u32
 // The passes over a model that is not refused.
 pub fn run(model: Model, pruning: u32, threshold: u32) -> Outcome
     requires { ⌜ ((ps : List Packet) × Modelled ps model pruning threshold) ⌝ }
-    ensures { λ r. ⌜ ((ps : List Packet) → Modelled ps model pruning threshold → Searched ps pruning threshold r) ⌝ }
+    ensures { λ r. ⌜ ((ps : List Packet) → Modelled ps model pruning threshold → Searched ps (slackAt ps) pruning threshold r) ⌝ }
 {
+    let key = slacks(model);
     let n = model.packets.count;
     let paths = model.flows.path;
     let links = links_of(paths);
@@ -80,6 +83,7 @@ pub fn run(model: Model, pruning: u32, threshold: u32) -> Outcome
     let release = model.packets.release;
     let longest = longest_of(&occupancy);
     rounds(
+        &key,
         n,
         &flow,
         &occupancy,

@@ -1,0 +1,20 @@
+// The key of the list: the slack of each packet.
+use model::Model;
+ghost use Rattle.search.specs.Slack.{Keyed, SlacksOf};
+
+// The slack of each packet, D − occupancy; 0 past them.
+pub fn slacks(model: Model) -> [u64; 1024]
+    requires { ⌜ Keyed model ⌝ }
+    ensures { λ r. ⌜ SlacksOf model r ⌝ }
+{
+    let n = model.packets.count;
+    let flow = model.packets.flow;
+    let due = model.flows.due;
+    let occupancy = model.flows.occupancy;
+    let mut key = [0u64; 1024];
+    for p in 0..n {
+        let own = flow[p] as usize;
+        key[p] = (due[own] - occupancy[own]) as u64;
+    }
+    key
+}
