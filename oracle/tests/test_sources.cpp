@@ -124,6 +124,18 @@ void test_dct() {
   CLAIM_ANSWER(oracle::check(check_of(call, moved)), "12 3 6 0 0 0 0 0");
 }
 
+// Source 004, table 4.2: the hyper-periods of applications A to G, whatever the number of packets.
+void test_hyper_periods() {
+  about("source 004, table 4.2");
+  CLAIM_EQUAL(oracle::hyper_period_of({90, 4, 21}), 1260);
+  CLAIM_EQUAL(oracle::hyper_period_of({4, 14, 28, 10, 44}), 1540);
+  CLAIM_EQUAL(oracle::hyper_period_of({10, 12, 16, 18, 20, 200}), 3600);
+  CLAIM_EQUAL(oracle::hyper_period_of({90, 60, 105, 50, 150}), 6300);
+  CLAIM_EQUAL(oracle::hyper_period_of({30, 35, 45, 100, 800}), 50400);
+  CLAIM_EQUAL(oracle::hyper_period_of({24, 30, 7}), 840);
+  CLAIM_EQUAL(oracle::hyper_period_of({64, 80, 20, 30, 60}), 960);
+}
+
 }  // namespace
 
 void test_sources() {
@@ -133,6 +145,7 @@ void test_sources() {
   test_unwrapping();
   test_cfar();
   test_dct();
+  test_hyper_periods();
 }
 
 }  // namespace oracle_tests
