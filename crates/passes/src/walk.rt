@@ -24,13 +24,7 @@ pub struct Walk {
 }
 
 // Packet p takes a time: it goes among the placed packets, and into its place of the table.
-fn settle(
-    times: &mut [u32; 1024],
-    by: &mut [u16; 1024],
-    count: usize,
-    packet: u16,
-    time: u32,
-)
+fn settle(times: &mut [u32; 1024], by: &mut [u16; 1024], count: usize, packet: u16, time: u32)
     requires { ⌜ Settles (now by) count (now times) packet ⌝ }
     ensures { λ _. ⌜ (now (times .exit) ≡ set (now (times .entry)) packet time) × (now (by .exit) ≡ keptWith (now (by .entry)) count (now (times .entry)) time packet) ⌝ }
 {

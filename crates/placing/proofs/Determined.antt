@@ -2,19 +2,19 @@
 -- `in_order` promises the first n entries, which are all that anyone reads; `place` answers for any packets that the arrays hold.
 use mathlib.Core.Path.{_≡_, sym, _∙_}
 use mathlib.Core.List.{List}
-use Prim.Native.Nat.{_<_}
+use Prim.Native.Nat.{ℕ, _<_}
 use lib.ListN.{length, take}
 use contract.Lifetimes.{Lfts}
 use denote.Ref.{now}
 use denote.Triple.Clauses.{AtExit}
 use borrow.Fn.Kinds.{Dens, resT, endedOf}
 use Rattle.packet.specs.Packet.{Packet}
-use Rattle.placing.specs.Kept.{loadOf}
-use Rattle.placing.specs.Held.{Held, Listed}
+use Rattle.placing.specs.Busy.{busyOf}
+use Rattle.placing.specs.Held.{loadOf, Held, Covers}
 use Rattle.placing.proofs.ranking.in_order.Reads as in-order
 use Rattle.placing.proofs.ranking.in_order.Kinds as in-order-kinds
-use Rattle.placing.proofs.keeping.place.Reads as place
-use Rattle.placing.proofs.keeping.place.Kinds as place-kinds
+use Rattle.placing.proofs.sweep.place.Reads as place
+use Rattle.placing.proofs.sweep.place.Kinds as place-kinds
 use Rattle.placing.proofs.shift.put_in.Reads as put-in
 use Rattle.placing.proofs.shift.put_in.Kinds as put-in-kinds
 use Rattle.placing.proofs.keeping.keep.Reads as keep
@@ -25,9 +25,11 @@ pub put-in-determined : (κs : Lfts 1) (a : Dens κs put-in-kinds.ps) (x y : res
     (s t : AtExit (endedOf 1 put-in-kinds.ps put-in-kinds.r) κs) → put-in.Post κs a x s → put-in.Post κs a y t → now (s .0) ≡ now (t .0)
 put-in-determined κs a x y s t p q = p ∙ sym q
 
--- the placed packets with one more
-pub keep-determined : (κs : Lfts 2) (a : Dens κs keep-kinds.ps) (x y : resT keep-kinds.r κs .Denot)
-    (s t : AtExit (endedOf 2 keep-kinds.ps keep-kinds.r) κs) → keep.Post κs a x s → keep.Post κs a y t → now (s .0) ≡ now (t .0)
+-- the stretches with one more packet
+pub keep-determined : (κs : Lfts 6) (a : Dens κs keep-kinds.ps) (x y : resT keep-kinds.r κs .Denot)
+    (s t : AtExit (endedOf 6 keep-kinds.ps keep-kinds.r) κs) → keep.Post κs a x s → keep.Post κs a y t
+    → busyOf (now (s .0)) (now (s .1 .0)) (now (s .1 .1 .0)) (now (s .1 .1 .1 .0)) (x .count) (x .longest)
+    ≡ busyOf (now (t .0)) (now (t .1 .0)) (now (t .1 .1 .0)) (now (t .1 .1 .1 .0)) (y .count) (y .longest)
 keep-determined κs a x y s t p q = p ∙ sym q
 
 -- the numbers below n in order
@@ -36,11 +38,12 @@ pub in-order-determined : (κs : Lfts 1) (a : Dens κs in-order-kinds.ps) (x y :
     → take (a .1 .0) x ≡ take (a .1 .0) y
 in-order-determined κs a x y s t p q = p ∙ sym q
 
--- where a packet goes, among packets that the arrays hold
-pub place-determined : (κs : Lfts 8) (a : Dens κs place-kinds.ps) (x y : resT place-kinds.r κs .Denot)
-    (s t : AtExit (endedOf 8 place-kinds.ps place-kinds.r) κs) (ps : List Packet)
-    → Held ps (loadOf (now (a .1 .1 .1 .0)) (now (a .1 .1 .1 .1 .0)) (now (a .1 .1 .1 .1 .1 .0)) (now (a .1 .1 .1 .1 .1 .1 .0)))
-    (now (a .1 .1 .1 .1 .1 .1 .1 .0)) (now (a .1 .1 .1 .1 .1 .1 .1 .1 .0))
-    → Listed ps (now (a .0)) (a .1 .0) (now (a .1 .1 .0)) → a .1 .1 .1 .1 .1 .1 .1 .1 .1 .1 .1 .0 < length ps
-    → place.Post κs a x s → place.Post κs a y t → x ≡ y
-place-determined κs a x y s t ps held listed packet p q = p ps held listed packet ∙ sym (q ps held listed packet)
+-- where a packet goes, for any packets and table that the arrays hold
+pub place-determined : (κs : Lfts 10) (a : Dens κs place-kinds.ps) (x y : resT place-kinds.r κs .Denot)
+    (s t : AtExit (endedOf 10 place-kinds.ps place-kinds.r) κs) (ps : List Packet) (table : List ℕ)
+    → Held ps (loadOf (now (a .1 .1 .1 .1 .1 .0)) (now (a .1 .1 .1 .1 .1 .1 .0)) (now (a .1 .1 .1 .1 .1 .1 .1 .0)) (now (a .1 .1 .1 .1 .1 .1 .1 .1 .0)))
+    (now (a .1 .1 .1 .1 .1 .1 .1 .1 .1 .0)) (now (a .1 .1 .1 .1 .1 .1 .1 .1 .1 .1 .0))
+    → Covers ps (now (a .1 .1 .1 .1 .1 .1 .1 .0)) (now (a .1 .1 .1 .1 .1 .1 .1 .1 .0))
+    (busyOf (now (a .0)) (now (a .1 .0)) (now (a .1 .1 .0)) (now (a .1 .1 .1 .0)) (a .1 .1 .1 .1 .0 .count) (a .1 .1 .1 .1 .0 .longest)) table
+    → a .1 .1 .1 .1 .1 .1 .1 .1 .1 .1 .1 .1 .0 < length ps → place.Post κs a x s → place.Post κs a y t → x ≡ y
+place-determined κs a x y s t ps table held covers packet p q = p ps table held covers packet ∙ sym (q ps table held covers packet)

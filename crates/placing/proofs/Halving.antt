@@ -16,7 +16,7 @@ pub record Halving (start : ℕ → ℕ) (count time low high : ℕ) : Type 0 wh
   pub below : (j : ℕ) → j < low → start j ≤ time
   pub above : (j : ℕ) → high ≤ j → j < count → time < start j
 
-module _ (start : ℕ → ℕ) (count time : ℕ) where
+module _ {start : ℕ → ℕ} {count time : ℕ} where
   -- nothing is known at first
   pub halving-start : Halving start count time 0 count
   halving-start = record {
@@ -26,7 +26,7 @@ module _ (start : ℕ → ℕ) (count time : ℕ) where
     above = λ j h k. absurd (omega arith);
   }
 
-  module _ (rising : (i j : ℕ) → i ≤ j → j < count → start i ≤ start j) (low high middle : ℕ) (h : Halving start count time low high)
+  module _ (rising : (i j : ℕ) → i ≤ j → j < count → start i ≤ start j) {low high middle : ℕ} (h : Halving start count time low high)
       (l : low ≤ middle) (m : middle < high) where
     -- the upper half is left
     pub halving-up : start middle ≤ time → Halving start count time (middle + 1) high
@@ -47,8 +47,8 @@ module _ (start : ℕ → ℕ) (count time : ℕ) where
     }
 
   -- where the two meet is the first start after the time
-  pub halving-end : (low high : ℕ) → Halving start count time low high → high ≤ low → first (λ j. ltb time (start j)) count ≡ low
-  halving-end low high h e =
+  pub halving-end : {low high : ℕ} → Halving start count time low high → high ≤ low → first (λ j. ltb time (start j)) count ≡ low
+  halving-end {low} {high} h e =
       elim (decLe count low) [
         | yes a ↦
             let same : count ≡ low = omega (arith, h .within, h .order) in

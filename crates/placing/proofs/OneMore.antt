@@ -1,26 +1,24 @@
--- The placed packets with one more: they stay in order of start, and list the placed packets of the table.
--- In order: what stands where in the list with one more; that the starts of the others do not change; that the list is kept; and
--- that it lists the packets of the table with one more time.
+-- A packet makes a stretch of its own: the stretches stay kept, and are what the table with one more time holds.
+-- In order: what stands where in the list with one more; what each stretch then is; that they are kept in order; and what they hold.
 use mathlib.Core.Path.{_≡_, refl, sym, _∙_, ap, subst}
-use mathlib.Core.Bool.{true, false, not, false≢true}
+use mathlib.Core.Bool.{true}
 use mathlib.Core.List.{List}
 use Prim.Native.Nat.{ℕ, _+_, _-_, _≤_, _<_}
 use native.Mathlib.Nat.{lt-of-not-le}
 use native.Mathlib.Decide.{decLe, ℕ-discrete}
 use native.Mathlib.Omega.{arith}
-use lib.Dec.{ltb, eqb}
-use lib.ListN.{length, getD, set, take}
-use lib.Seq.{getD-set-same, getD-set-other, take-set-lt, length-take-le}
-use borrow.Author.Tests.{ne-eqb}
-use Rattle.basics.specs.First.{first}
-use Rattle.time.specs.Hyper.{most}
+use lib.ListN.{length, getD, set, length-set}
+use lib.Seq.{getD-set-same, getD-set-other}
 use Rattle.packet.specs.Packet.{Packet}
+use Rattle.placing.specs.Placing.{placed}
 use Rattle.placing.specs.Lists.{shifted}
-use Rattle.placing.specs.Placing.{none, placed}
-use Rattle.placing.specs.Kept.{startOf, Kept}
-use Rattle.placing.specs.Held.{Listed, keptWith}
+use Rattle.placing.specs.Busy.{pathIn, Busy, entry, startOf, endOf, flowOf, Kept}
+use Rattle.placing.specs.Keep.{placeFor, withOwn, Keep}
+use Rattle.placing.specs.Held.{Within, Holder, Covers}
 use Rattle.placing.proofs.Shifting.{shifted-before, shifted-at, shifted-moved, shifted-length}
-use Rattle.placing.proofs.Halving.{after-within, after-below, after-above}
+use Rattle.placing.proofs.Halving.{after-below, after-above}
+use Rattle.placing.proofs.Joining.{place-within}
+use Rattle.placing.proofs.Covering.{longer-first, longer-second, placed-other, Taking, within-on, held-on, within-new, held-new}
 
 -- number j of the list with one more: as it was, the new one, or the one that was before
 data Where (by more : List ℕ) (at count p j : ℕ) : Type 0 where
@@ -45,174 +43,166 @@ find by at count p j h long l =
       ]
     ]
 
-module _ (by : List ℕ) (count : ℕ) (times : List ℕ) (time p : ℕ) (kept : Kept by count times) (by-long : length by ≡ 1024)
-    (times-long : length times ≡ 1024) (room : count < 1024) (packet : p < 1024) (soon : time ≤ most)
-    (new : (j : ℕ) → j < count → getD by j 0 ≡ p → ⊥) where
-  at : ℕ
-  at = first (λ j. ltb time (startOf by times j)) count
+module _ {lens links : List ℕ} {b : Busy} {g time end : ℕ} (asks : Keep lens links b g time end) {at : ℕ} (is : at ≡ placeFor b time) where
+  -- the stretches with the new one
+  abbrev more : Busy
+  more = withOwn b at g time end
 
-  within : at ≤ count
-  unfolding at
-  within = after-within (startOf by times) count time (first (λ j. ltb time (startOf by times j)) count) refl
+  within : at ≤ b .count
+  within = omega (arith, is, place-within asks)
 
   -- what stands where
-  spot : (j : ℕ) → j < count + 1 → Where by (keptWith by count times time p) at count p j
-  unfolding keptWith at
-  spot j l = find by at count p j within (omega (arith, by-long)) l
+  spot : (j : ℕ) → j < b .count + 1 → Where (b .by) (more .by) at (b .count) (b .count) j
+  unfolding withOwn
+  spot j l = find (b .by) at (b .count) (b .count) j within (omega (arith, asks .kept .by-long, asks .room)) l
 
-  -- the starts of the others do not change
-  other-start : (j : ℕ) → j < count → getD (set times p time) (getD by j 0) 0 ≡ startOf by times j
-  unfolding startOf
-  other-start j l = getD-set-other times p (getD by j 0) time 0 (new j l)
+  -- an array with one more entry has the entries of the others, and the new one
+  entry-other : (xs : List ℕ) (x j i : ℕ) → i < b .count → getD (more .by) j 0 ≡ getD (b .by) i 0
+      → entry (more .by) (set xs (b .count) x) j ≡ entry (b .by) xs i
+  unfolding entry
+  entry-other xs x j i h e =
+      ap (λ (k : ℕ). getD (set xs (b .count) x) k 0) e
+      ∙ getD-set-other xs (b .count) (getD (b .by) i 0) x 0 (λ z. omega (arith, asks .kept .order .listed i h))
 
-  -- the start of the new one is its time
-  new-start : getD (set times p time) p 0 ≡ time
-  new-start = getD-set-same times p time 0 (omega (arith, times-long))
+  entry-new : (xs : List ℕ) (x j : ℕ) → length xs ≡ 1024 → getD (more .by) j 0 ≡ b .count → entry (more .by) (set xs (b .count) x) j ≡ x
+  unfolding entry
+  entry-new xs x j long e =
+      ap (λ (k : ℕ). getD (set xs (b .count) x) k 0) e ∙ getD-set-same xs (b .count) x 0 (omega (arith, long, asks .room))
 
-  -- the start of number j, by what it is
-  start-of : (j m n : ℕ) → getD (keptWith by count times time p) j 0 ≡ m → getD (set times p time) m 0 ≡ n
-      → startOf (keptWith by count times time p) (set times p time) j ≡ n
-  unfolding startOf
-  start-of j m n e f = ap (λ (q : ℕ). getD (set times p time) q 0) e ∙ f
+  -- the stretch that comes j-th afterwards: one of those before, or the new one
+  data Which (j : ℕ) : Type 0 where
+    old : (i : ℕ) → i < b .count → startOf more j ≡ startOf b i → endOf more j ≡ endOf b i → flowOf more j ≡ flowOf b i → Which j
+    new : startOf more j ≡ time → endOf more j ≡ end → flowOf more j ≡ g → Which j
 
-  -- what holds of the starts of the others and of the time holds of each start
-  each-start : (P : ℕ → Type 0) → ((i : ℕ) → i < count → P (startOf by times i)) → P time → (j : ℕ) → j < count + 1
-      → P (startOf (keptWith by count times time p) (set times p time) j)
-  each-start P others this j l = go (spot j l)
+  which-other : (j i : ℕ) → i < b .count → getD (more .by) j 0 ≡ getD (b .by) i 0 → Which j
+  unfolding withOwn
+  which-other j i h e = old i h (entry-other (b .from) time j i h e) (entry-other (b .until) end j i h e) (entry-other (b .who) g j i h e)
+
+  which-new : (j : ℕ) → getD (more .by) j 0 ≡ b .count → Which j
+  unfolding withOwn
+  which-new j e =
+      new (entry-new (b .from) time j (asks .kept .from-long) e) (entry-new (b .until) end j (asks .kept .until-long) e)
+      (entry-new (b .who) g j (asks .kept .who-long) e)
+
+  -- one of the two holds
+  which : (j : ℕ) → j < b .count + 1 → Which j
+  which j l = go (spot j l)
     where
-      go : Where by (keptWith by count times time p) at count p j → P (startOf (keptWith by count times time p) (set times p time) j)
-      go (before a e) = subst P (sym (start-of j _ _ e (other-start j (omega (arith, within))))) (others j (omega (arith, within)))
-      go (here a e) = subst P (sym (start-of j _ _ e new-start)) this
-      go (after i a b d e) = subst P (sym (start-of j _ _ e (other-start i d))) (others i d)
+      go : Where (b .by) (more .by) at (b .count) (b .count) j → Which j
+      go (before a e) = which-other j j (omega (arith, within)) e
+      go (here a e) = which-new j e
+      go (after i a h d e) = which-other j i d e
 
   -- of two, the one before starts no later
-  rises : (i j : ℕ) → i ≤ j → Where by (keptWith by count times time p) at count p i → Where by (keptWith by count times time p) at count p j
-      → startOf (keptWith by count times time p) (set times p time) i ≤ startOf (keptWith by count times time p) (set times p time) j
-  unfolding at
-  rises i j l (before a e) (before b f) =
-      let si = start-of i _ _ e (other-start i (omega (arith, within))) in
-      let sj = start-of j _ _ f (other-start j (omega (arith, within))) in
-      omega (arith, kept .rising i j l (omega (arith, within)))
-  rises i j l (before a e) (here b f) =
-      let si = start-of i _ _ e (other-start i (omega (arith, within))) in
-      let sj = start-of j _ _ f new-start in
-      omega (arith, after-below (startOf by times) count time at refl i a)
-  rises i j l (before a e) (after k b d n f) =
-      let si = start-of i _ _ e (other-start i (omega (arith, within))) in
-      let sj = start-of j _ _ f (other-start k n) in
-      omega (arith, kept .rising i k (omega arith) n)
-  rises i j l (here a e) (before b f) = absurd (omega arith)
-  rises i j l (here a e) (here b f) =
-      let si = start-of i _ _ e new-start in
-      let sj = start-of j _ _ f new-start in
+  rises : (i j : ℕ) → i ≤ j → Where (b .by) (more .by) at (b .count) (b .count) i → Where (b .by) (more .by) at (b .count) (b .count) j
+      → startOf more i ≤ startOf more j
+  unfolding withOwn placeFor
+  rises i j l (before a e) (before h f) =
+      let si = entry-other (b .from) time i i (omega (arith, within)) e in
+      let sj = entry-other (b .from) time j j (omega (arith, within)) f in
+      omega (arith, asks .kept .order .rising i j l (omega (arith, within)))
+  rises i j l (before a e) (here h f) =
+      let si = entry-other (b .from) time i i (omega (arith, within)) e in
+      let sj = entry-new (b .from) time j (asks .kept .from-long) f in
+      omega (arith, after-below (startOf b) (b .count) time at is i a)
+  rises i j l (before a e) (after k h d n f) =
+      let si = entry-other (b .from) time i i (omega (arith, within)) e in
+      let sj = entry-other (b .from) time j k n f in
+      omega (arith, asks .kept .order .rising i k (omega arith) n)
+  rises i j l (here a e) (before h f) = absurd (omega arith)
+  rises i j l (here a e) (here h f) =
+      let si = entry-new (b .from) time i (asks .kept .from-long) e in
+      let sj = entry-new (b .from) time j (asks .kept .from-long) f in
       omega arith
-  rises i j l (here a e) (after k b d n f) =
-      let si = start-of i _ _ e new-start in
-      let sj = start-of j _ _ f (other-start k n) in
-      omega (arith, after-above (startOf by times) count time at refl (kept .rising) k d n)
-  rises i j l (after k a d n e) (before b f) = absurd (omega arith)
-  rises i j l (after k a d n e) (here b f) = absurd (omega arith)
-  rises i j l (after k a d n e) (after m b o q f) =
-      let si = start-of i _ _ e (other-start k n) in
-      let sj = start-of j _ _ f (other-start m q) in
-      omega (arith, kept .rising k m (omega arith) q)
+  rises i j l (here a e) (after k h d n f) =
+      let si = entry-new (b .from) time i (asks .kept .from-long) e in
+      let sj = entry-other (b .from) time j k n f in
+      omega (arith, after-above (startOf b) (b .count) time at is (asks .kept .order .rising) k d n)
+  rises i j l (after k a d n e) (before h f) = absurd (omega arith)
+  rises i j l (after k a d n e) (here h f) = absurd (omega arith)
+  rises i j l (after k a d n e) (after m h o q f) =
+      let si = entry-other (b .from) time i k n e in
+      let sj = entry-other (b .from) time j m q f in
+      omega (arith, asks .kept .order .rising k m (omega arith) q)
 
-  -- what holds of the numbers of the others and of the new one holds of each
-  each-number : (P : ℕ → Type 0) → ((i : ℕ) → i < count → P (getD by i 0)) → P p → (j : ℕ) → j < count + 1
-      → P (getD (keptWith by count times time p) j 0)
-  each-number P others this j l = go (spot j l)
-    where
-      go : Where by (keptWith by count times time p) at count p j → P (getD (keptWith by count times time p) j 0)
-      go (before a e) = subst P (sym e) (others j (omega (arith, within)))
-      go (here a e) = subst P (sym e) this
-      go (after i a b d e) = subst P (sym e) (others i d)
-
-  -- the list is kept
-  pub kept-more : Kept (keptWith by count times time p) (count + 1) (set times p time)
-  kept-more = record {
-    few = omega arith;
-    listed = each-number (λ (q : ℕ). q < 1024) (kept .listed) packet;
-    soon = each-start (λ (s : ℕ). s ≤ most) (kept .soon) soon;
-    rising = λ i j l k. rises i j l (spot i (omega arith)) (spot j k);
+  -- the stretches are kept
+  pub own-kept : Kept more
+  unfolding withOwn
+  own-kept = record {
+    order = record {
+      few = omega (arith, asks .room);
+      listed = λ j h. lists j (spot j h);
+      rising = λ i j l k. rises i j l (spot i (omega arith)) (spot j k);
+    };
+    by-long = shifted-length (b .by) at (b .count) (b .count) within (omega (arith, asks .kept .by-long, asks .room)) ∙ asks .kept .by-long;
+    from-long = length-set (b .from) (b .count) time ∙ asks .kept .from-long;
+    until-long = length-set (b .until) (b .count) end ∙ asks .kept .until-long;
+    who-long = length-set (b .who) (b .count) g ∙ asks .kept .who-long;
+    flows = λ j h. flowing j (which j h);
+    filled = λ j h. fills j (which j h);
+    soon = λ j h. ends j (which j h);
+    short = λ j h. spans j (which j h);
   }
+    where
+      lists : (j : ℕ) → Where (b .by) (more .by) at (b .count) (b .count) j → getD (more .by) j 0 < b .count + 1
+      lists j (before a e) = omega (arith, e, asks .kept .order .listed j (omega (arith, within)))
+      lists j (here a e) = omega (arith, e)
+      lists j (after i a h d e) = omega (arith, e, asks .kept .order .listed i d)
 
-  -- it is as long as before
-  pub kept-length : length (keptWith by count times time p) ≡ 1024
-  unfolding keptWith
-  kept-length = shifted-length by _ count p (after-within (startOf by times) count time _ refl) (omega (arith, by-long)) ∙ by-long
+      flowing : (j : ℕ) → Which j → flowOf more j < 64
+      flowing j (old i h s e w) = omega (arith, w, asks .kept .flows i h)
+      flowing j (new s e w) = omega (arith, w, asks .flow)
 
-  -- ---- the packets of the table
+      fills : (j : ℕ) → Which j → startOf more j < endOf more j
+      fills j (old i h s e w) = omega (arith, s, e, asks .kept .filled i h)
+      fills j (new s e w) = omega (arith, s, e, asks .lasting)
 
-  -- where a number is that was number j
-  moved : (j : ℕ) → j < count → (i : ℕ) × (i < count + 1) × (getD (keptWith by count times time p) i 0 ≡ getD by j 0)
-  unfolding keptWith at
+      ends : (j : ℕ) → Which j → endOf more j ≤ 33554432
+      ends j (old i h s e w) = omega (arith, e, asks .kept .soon i h)
+      ends j (new s e w) = omega (arith, e, asks .soon)
+
+      spans : (j : ℕ) → Which j → endOf more j ≤ startOf more j + more .longest
+      spans j (old i h s e w) = omega (arith, s, e, asks .kept .short i h, longer-first (b .longest) (end - time))
+      spans j (new s e w) = omega (arith, s, e, longer-second (b .longest) (end - time))
+
+  -- where a stretch is that came j-th
+  moved : (j : ℕ) → j < b .count → (i : ℕ) × (i < b .count + 1) × (getD (more .by) i 0 ≡ getD (b .by) j 0)
+  unfolding withOwn
   moved j l =
       elim (decLe at j) [
-        | no a ↦ (j, omega arith, shifted-before by at count p within (omega (arith, by-long)) j (lt-of-not-le a))
-        | yes a ↦ (j + 1, omega arith, shifted-moved by at count p within (omega (arith, by-long)) j a l)
+        | no a ↦ (j, omega arith, shifted-before (b .by) at (b .count) (b .count) within (omega (arith, asks .kept .by-long, asks .room)) j (lt-of-not-le a))
+        | yes a ↦ (j + 1, omega arith, shifted-moved (b .by) at (b .count) (b .count) within (omega (arith, asks .kept .by-long, asks .room)) j a l)
       ]
 
   -- where the new one is
-  put : (i : ℕ) × (i < count + 1) × (getD (keptWith by count times time p) i 0 ≡ p)
-  unfolding keptWith at
-  put = (at, omega (arith, within), shifted-at by at count p within (omega (arith, by-long)))
+  put : getD (more .by) at 0 ≡ b .count
+  unfolding withOwn
+  put = shifted-at (b .by) at (b .count) (b .count) within (omega (arith, asks .kept .by-long, asks .room))
 
--- ---- a table with one more time
+  module _ {ps : List Packet} {table : List ℕ} {p : ℕ} (taking : Taking ps lens links table p g time end) (covers : Covers ps lens links b table) where
+    -- and are what the packets hold
+    pub own-covers : Covers ps lens links more (set table p time)
+    unfolding withOwn
+    own-covers = record { within = inside; held = λ j c h low high. holds j c low high (which j h) }
+      where
+        inside : (q : ℕ) → q < length ps → placed (set table p time) q ≡ true
+            → (j : ℕ) × (j < b .count + 1) × Within ps lens links more (set table p time) q j
+        inside q h e =
+            elim (ℕ-discrete q p) [
+              | yes same ↦
+                  let s = entry-new (b .from) time at (asks .kept .from-long) put in
+                  let u = entry-new (b .until) end at (asks .kept .until-long) put in
+                  let w = entry-new (b .who) g at (asks .kept .who-long) put in
+                  (at, omega (arith, within), subst (λ (n : ℕ). Within ps lens links more (set table p time) n at) (sym same)
+                  (within-new taking (ap (pathIn lens links) (sym w)) (omega (arith, s)) (omega (arith, u))))
+              | no ne ↦
+                  let was = sym (placed-other table p time q ne) ∙ e in
+                  let w = covers .within q h was in
+                  let m = moved (w .0) (w .1) in
+                  (m .0, m .1, within-on taking was (w .2) (omega (arith, entry-other (b .from) time (m .0) (w .0) (w .1) (m .2)))
+                  (omega (arith, entry-other (b .until) end (m .0) (w .0) (w .1) (m .2))) (entry-other (b .who) g (m .0) (w .0) (w .1) (m .2)))
+            ]
 
--- a packet whose place is given a time is placed
-pub placed-new : (table : List ℕ) (p time : ℕ) → p < length table → time < none → placed (set table p time) p ≡ true
-unfolding placed
-placed-new table p time h soon =
-    ap (λ (t : ℕ). not (eqb t none)) (getD-set-same table p time none h) ∙ ap not (ne-eqb time none (λ e. omega arith))
-
--- whether another is does not change
-pub placed-other : (table : List ℕ) (p time q : ℕ) → (q ≡ p → ⊥) → placed (set table p time) q ≡ placed table q
-unfolding placed
-placed-other table p time q ne = ap (λ (t : ℕ). not (eqb t none)) (getD-set-other table p q time none ne)
-
--- a packet that is not placed is not listed
-pub not-listed : (ps : List Packet) (by : List ℕ) (count : ℕ) (times : List ℕ) → Listed ps by count times → (p : ℕ)
-    → placed (take (length ps) times) p ≡ false → (j : ℕ) → j < count → getD by j 0 ≡ p → ⊥
-not-listed ps by count times listed p e j h f =
-    false≢true (sym e ∙ subst (λ (q : ℕ). placed (take (length ps) times) q ≡ true) f (listed .timed j h))
-
-module _ (ps : List Packet) (by : List ℕ) (count : ℕ) (times : List ℕ) (time p : ℕ) (kept : Kept by count times) (by-long : length by ≡ 1024)
-    (times-long : length times ≡ 1024) (room : count < 1024) (few : length ps ≤ 1024) (packet : p < length ps) (soon : time ≤ most)
-    (listed : Listed ps by count times) (e : placed (take (length ps) times) p ≡ false) where
-  new : (j : ℕ) → j < count → getD by j 0 ≡ p → ⊥
-  new = not-listed ps by count times listed p e
-
-  -- the table with one more time
-  table-is : take (length ps) (set times p time) ≡ set (take (length ps) times) p time
-  table-is = take-set-lt (length ps) times p time packet
-
-  -- the packet is placed
-  placed-this : placed (take (length ps) (set times p time)) p ≡ true
-  placed-this =
-      ap (λ (t : List ℕ). placed t p) table-is
-      ∙ placed-new (take (length ps) times) p time (omega (arith, length-take-le (length ps) times (omega (arith, times-long)))) (omega arith)
-
-  -- and so are those that were
-  placed-same : (q : ℕ) → (q ≡ p → ⊥) → placed (take (length ps) (set times p time)) q ≡ placed (take (length ps) times) q
-  placed-same q ne = ap (λ (t : List ℕ). placed t q) table-is ∙ placed-other (take (length ps) times) p time q ne
-
-  -- the list with one more lists the packets of the table with one more time
-  pub listed-more : Listed ps (keptWith by count times time p) (count + 1) (set times p time)
-  listed-more = record {
-    inside =
-        each-number by count times time p kept by-long times-long room (omega arith) soon new (λ (q : ℕ). q < length ps) (listed .inside) packet;
-    timed =
-        each-number by count times time p kept by-long times-long room (omega arith) soon new
-        (λ (q : ℕ). placed (take (length ps) (set times p time)) q ≡ true)
-        (λ i l. placed-same (getD by i 0) (new i l) ∙ listed .timed i l) placed-this;
-    all = λ q l f.
-        elim (ℕ-discrete q p) [
-          | yes a ↦
-              let w = put by count times time p kept by-long times-long room (omega arith) soon new in
-              (w .0, w .1, w .2 ∙ sym a)
-          | no a ↦
-              let o = listed .all q l (sym (placed-same q a) ∙ f) in
-              let w = moved by count times time p kept by-long times-long room (omega arith) soon new (o .0) (o .1) in
-              (w .0, w .1, w .2 ∙ o .2)
-        ];
-  }
+        holds : (j c : ℕ) → startOf more j ≤ c → c < endOf more j → Which j → Holder ps lens links more (set table p time) j c
+        holds j c low high (old i h s e w) = held-on taking (covers .held i c h (omega (arith, s)) (omega (arith, e))) w
+        holds j c low high (new s e w) = held-new taking (ap (pathIn lens links) (sym w)) (omega (arith, s)) (omega (arith, e))

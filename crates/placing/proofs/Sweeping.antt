@@ -1,6 +1,6 @@
 -- The sweep: what it knows as it goes, and that where it ends is the first gap.
--- In order: a flow's path in the array of links; when a placed packet is not in the way; what the sweep knows; the three ways
--- on (the placed packet is over, shares no link, or is in the way and is jumped past); and the two ends.
+-- In order: when a stretch is not in the way; what the sweep knows; the three ways on (the stretch is over, shares no link, or is in the
+-- way and is jumped past); and the two ends.
 use mathlib.Core.Path.{_≡_, refl, sym, _∙_, ap, subst}
 use mathlib.Core.Bool.{Bool, true, false, not}
 use mathlib.Core.List.{List}
@@ -8,93 +8,55 @@ use Prim.Native.Nat.{ℕ, _+_, _-_, _*_, _/_, _≤_, _<_}
 use native.Mathlib.Nat.{lt-of-not-le, div-mul-le-self, mul-le-mul-right, add-mul, le-mul-of-pos-right, lt-div-mul-add}
 use native.Mathlib.Decide.{decLe}
 use native.Mathlib.Omega.{arith}
-use lib.Dec.{ltb, eqb}
-use lib.ListN.{length, getD, drop, length-drop}
-use lib.Seq.{length-take-le, getD-take, getD-drop}
+use lib.Dec.{ltb}
 use borrow.Author.Tests.{lt-ltb, le-ltb}
 use Rattle.basics.specs.Choose.{both}
 use Rattle.basics.specs.First.{first, some}
 use Rattle.basics.proofs.Choose.{both-pass, both-not}
 use Rattle.basics.proofs.First.{first-is, first-none, some-at, some-none}
-use Rattle.mesh.specs.Share.{has, shares}
-use Rattle.mesh.proofs.Common.{has-at}
-use Rattle.time.specs.Window.{overlaps}
-use Rattle.placing.specs.Kept.{Load, pathIn, startOf, flowOf, hits, firstGap, gapAt, Kept, Sweep}
+use Rattle.mesh.specs.Share.{shares}
+use Rattle.placing.specs.Busy.{pathIn, Busy, startOf, endOf, flowOf, hits, firstGap, gapAt, Kept, Sweep}
 use Rattle.placing.specs.declared.sweep.Placed.the-variants.{At, Nowhere}
 
--- ---- a flow's path
+-- ---- one stretch
 
-module _ (lens links : List ℕ) (g : ℕ) (flow : g < 64) (short : getD lens g 0 ≤ 32) (long : length links ≡ 2048) where
-  -- it has as many links as it says
-  pub path-length : length (pathIn lens links g) ≡ getD lens g 0
-  unfolding pathIn
-  path-length = length-take-le (getD lens g 0) (drop (g * 32) links) (omega (arith, length-drop (g * 32) links))
-
-  -- and they stand in its 32 places
-  pub path-at : (a : ℕ) → a < getD lens g 0 → getD (pathIn lens links g) a 0 ≡ getD links (g * 32 + a) 0
-  unfolding pathIn
-  path-at a h = getD-take (getD lens g 0) (drop (g * 32) links) a 0 h ∙ getD-drop (g * 32) links a 0
-
-  -- a link at one of them is on the path
-  pub path-has : (link a : ℕ) → a < getD lens g 0 → getD links (g * 32 + a) 0 ≡ link → has (pathIn lens links g) link ≡ true
-  path-has link a h e = has-at (pathIn lens links g) link a (omega (arith, path-length)) (path-at a h ∙ e)
-
-  -- one that differs from each is not
-  pub path-lacks : (link : ℕ) → ((a : ℕ) → a < getD lens g 0 → eqb (getD links (g * 32 + a) 0) link ≡ false)
-      → has (pathIn lens links g) link ≡ false
-  unfolding has
-  path-lacks link lacks = some-none _ _ (λ a h.
-      let l : a < getD lens g 0 = omega (arith, path-length) in
-      ap (λ (x : ℕ). eqb x link) (path-at a l) ∙ lacks a l)
-
-  -- a path none of whose links is on it shares none
-  pub path-apart : (other : List ℕ) → ((a : ℕ) → a < getD lens g 0 → has other (getD links (g * 32 + a) 0) ≡ false)
-      → shares (pathIn lens links g) other ≡ false
-  unfolding shares
-  path-apart other lacks = some-none _ _ (λ a h.
-      let l : a < getD lens g 0 = omega (arith, path-length) in
-      ap (has other) (path-at a l) ∙ lacks a l)
-
--- ---- one placed packet
-
-module _ (load : Load) (by times : List ℕ) (g : ℕ) (j : ℕ) where
+module _ (lens links : List ℕ) (b : Busy) (g span j : ℕ) where
   -- it is over
-  over-misses : (t : ℕ) → startOf by times j + getD (load .occupancy) (flowOf load by j) 0 ≤ t → hits load by times g t j ≡ false
-  unfolding hits overlaps
-  over-misses t h = rw (le-ltb t (startOf by times j + getD (load .occupancy) (flowOf load by j) 0) h) refl
+  over-misses : (t : ℕ) → endOf b j ≤ t → hits lens links b g span t j ≡ false
+  unfolding hits
+  over-misses t h = rw (le-ltb t (endOf b j) h) refl
 
   -- it starts when the packet is over
-  later-misses : (t : ℕ) → t + getD (load .occupancy) g 0 ≤ startOf by times j → hits load by times g t j ≡ false
-  unfolding hits overlaps
+  later-misses : (t : ℕ) → t + span ≤ startOf b j → hits lens links b g span t j ≡ false
+  unfolding hits
   later-misses t h =
-      ap (λ (b : Bool). both b (shares (pathIn (load .lens) (load .links) g) (pathIn (load .lens) (load .links) (flowOf load by j))))
-      (both-not (ltb t (startOf by times j + getD (load .occupancy) (flowOf load by j) 0)) _
-      (le-ltb (startOf by times j) (t + getD (load .occupancy) g 0) h))
+      ap (λ (overlapping : Bool). both overlapping (shares (pathIn lens links g) (pathIn lens links (flowOf b j))))
+      (both-not (ltb t (endOf b j)) _ (le-ltb (startOf b j) (t + span) h))
 
   -- it shares no link
-  apart-misses : (t : ℕ) → shares (pathIn (load .lens) (load .links) g) (pathIn (load .lens) (load .links) (flowOf load by j)) ≡ false
-      → hits load by times g t j ≡ false
+  apart-misses : (t : ℕ) → shares (pathIn lens links g) (pathIn lens links (flowOf b j)) ≡ false
+      → hits lens links b g span t j ≡ false
   unfolding hits
-  apart-misses t h = both-not (overlaps t _ (startOf by times j) _) _ h
+  apart-misses t h = both-not (both (ltb t (endOf b j)) (ltb (startOf b j) (t + span))) _ h
 
   -- it shares a link and neither is over before the other starts
-  meets-hits : (t : ℕ) → shares (pathIn (load .lens) (load .links) g) (pathIn (load .lens) (load .links) (flowOf load by j)) ≡ true
-      → t < startOf by times j + getD (load .occupancy) (flowOf load by j) 0 → startOf by times j < t + getD (load .occupancy) g 0
-      → hits load by times g t j ≡ true
-  unfolding hits overlaps
-  meets-hits t h k l = both-pass _ _ (both-pass _ _ (lt-ltb t _ k) (lt-ltb (startOf by times j) _ l)) h
+  meets-hits : (t : ℕ) → shares (pathIn lens links g) (pathIn lens links (flowOf b j)) ≡ true
+      → t < endOf b j → startOf b j < t + span
+      → hits lens links b g span t j ≡ true
+  unfolding hits
+  meets-hits t h k l = both-pass _ _ (both-pass _ _ (lt-ltb t _ k) (lt-ltb (startOf b j) _ l)) h
 
 -- ---- the sweep
 
--- number k of the placed packets is next, at time i, which is t: at no time before is there a gap, and no placed packet before k
+-- number k of the stretchs is next, at time i, which is t: at no time before is there a gap, and no stretch before k
 -- is in the way from t on
-pub record Sweeping (load : Load) (by : List ℕ) (count : ℕ) (times : List ℕ) (g f begin k i t : ℕ) : Type 0 where
-  pub within : k ≤ count
+pub record Sweeping (lens links : List ℕ) (b : Busy) (g span f begin k i t : ℕ) : Type 0 where
+  pub within : k ≤ b .count
   pub grid : t ≡ begin + i * f
   pub small : t ≤ 50331648
   pub fits : i ≤ t
-  pub blocked : (m : ℕ) → m < i → some (hits load by times g (begin + m * f)) count ≡ true
-  pub passed : (j : ℕ) → j < k → (s : ℕ) → t ≤ s → hits load by times g s j ≡ false
+  pub blocked : (m : ℕ) → m < i → some (hits lens links b g span (begin + m * f)) (b .count) ≡ true
+  pub passed : (j : ℕ) → j < k → (s : ℕ) → t ≤ s → hits lens links b g span s j ≡ false
 
 -- how far a jump goes: at least up to the end, and each step before it falls short
 pub record Jump (f gap steps : ℕ) : Type 0 where
@@ -122,30 +84,30 @@ jump f gap h k =
 grid-add : (begin f i d : ℕ) → begin + (i + d) * f ≡ begin + i * f + d * f
 grid-add begin f i d = omega (arith, add-mul i d f)
 
-module _ (load : Load) (by : List ℕ) (count : ℕ) (times : List ℕ) (g f begin : ℕ) where
+module _ {lens links : List ℕ} {b : Busy} {g span f begin : ℕ} where
   -- it starts
-  pub sweep-start : (from : ℕ) → Sweep load by count times g f begin from → Sweeping load by count times g f begin from 0 begin
-  sweep-start from s = record {
+  pub sweep-start : {at : ℕ} → Sweep lens links b g span f begin at → Sweeping lens links b g span f begin at 0 begin
+  sweep-start s = record {
     within = s .within;
     grid = omega arith;
     small = omega (arith, s .soon);
     fits = omega arith;
     blocked = λ m h. absurd (omega arith);
-    passed = λ j h t l. over-misses load by times g j t (omega (arith, s .over j h));
+    passed = λ j h t l. over-misses lens links b g span j t (omega (arith, s .over j h));
   }
 
-  module _ (k i t : ℕ) (s : Sweeping load by count times g f begin k i t) where
+  module _ {k i t : ℕ} (s : Sweeping lens links b g span f begin k i t) where
     -- what is passed at a later time, with one more that is not in the way from then on
-    passed-more : (u : ℕ) → t ≤ u → ((v : ℕ) → u ≤ v → hits load by times g v k ≡ false)
-        → (j : ℕ) → j < k + 1 → (v : ℕ) → u ≤ v → hits load by times g v j ≡ false
+    passed-more : (u : ℕ) → t ≤ u → ((v : ℕ) → u ≤ v → hits lens links b g span v k ≡ false)
+        → (j : ℕ) → j < k + 1 → (v : ℕ) → u ≤ v → hits lens links b g span v j ≡ false
     passed-more u h miss j l v m =
         elim (decLe k j) [
-          | yes a ↦ let e : k ≡ j = omega arith in subst (λ (n : ℕ). hits load by times g v n ≡ false) e (miss v m)
+          | yes a ↦ let e : k ≡ j = omega arith in subst (λ (n : ℕ). hits lens links b g span v n ≡ false) e (miss v m)
           | no a ↦ s .passed j (lt-of-not-le a) v (omega arith)
         ]
 
     -- the next is not in the way from t on
-    sweep-on : k < count → ((v : ℕ) → t ≤ v → hits load by times g v k ≡ false) → Sweeping load by count times g f begin (k + 1) i t
+    sweep-on : k < b .count → ((v : ℕ) → t ≤ v → hits lens links b g span v k ≡ false) → Sweeping lens links b g span f begin (k + 1) i t
     sweep-on h miss = record {
       within = omega arith;
       grid = s .grid;
@@ -156,20 +118,20 @@ module _ (load : Load) (by : List ℕ) (count : ℕ) (times : List ℕ) (g f beg
     }
 
     -- the next is over
-    pub sweep-over : k < count → startOf by times k + getD (load .occupancy) (flowOf load by k) 0 ≤ t
-        → Sweeping load by count times g f begin (k + 1) i t
-    sweep-over h o = sweep-on h (λ v l. over-misses load by times g k v (omega arith))
+    pub sweep-over : k < b .count → endOf b k ≤ t
+        → Sweeping lens links b g span f begin (k + 1) i t
+    sweep-over h o = sweep-on h (λ v l. over-misses lens links b g span k v (omega arith))
 
     -- the next shares no link
-    pub sweep-apart : k < count → shares (pathIn (load .lens) (load .links) g) (pathIn (load .lens) (load .links) (flowOf load by k)) ≡ false
-        → Sweeping load by count times g f begin (k + 1) i t
-    sweep-apart h a = sweep-on h (λ v l. apart-misses load by times g k v a)
+    pub sweep-apart : k < b .count → shares (pathIn lens links g) (pathIn lens links (flowOf b k)) ≡ false
+        → Sweeping lens links b g span f begin (k + 1) i t
+    sweep-apart h a = sweep-on h (λ v l. apart-misses lens links b g span k v a)
 
     -- the next is in the way: every time before its end is blocked, and from there on it is over
-    pub sweep-jump : k < count → shares (pathIn (load .lens) (load .links) g) (pathIn (load .lens) (load .links) (flowOf load by k)) ≡ true
-        → (end steps : ℕ) → end ≡ startOf by times k + getD (load .occupancy) (flowOf load by k) 0 → t < end
-        → startOf by times k < t + getD (load .occupancy) g 0 → end ≤ 33554432 → f ≤ 65536 → Jump f (end - t) steps
-        → Sweeping load by count times g f begin (k + 1) (i + steps) (t + steps * f)
+    pub sweep-jump : k < b .count → shares (pathIn lens links g) (pathIn lens links (flowOf b k)) ≡ true
+        → (end steps : ℕ) → end ≡ endOf b k → t < end
+        → startOf b k < t + span → end ≤ 33554432 → f ≤ 65536 → Jump f (end - t) steps
+        → Sweeping lens links b g span f begin (k + 1) (i + steps) (t + steps * f)
     sweep-jump h meets end steps e before starts soon small j = record {
       within = omega arith;
       grid = omega (arith, s .grid, grid-add begin f i steps);
@@ -183,42 +145,42 @@ module _ (load : Load) (by : List ℕ) (count : ℕ) (times : List ℕ) (g f beg
                 let at : begin + m * f ≡ t + (m - i) * f =
                 ap (λ (n : ℕ). begin + n * f) (sym d) ∙ grid-add begin f i (m - i) ∙ ap (λ (n : ℕ). n + (m - i) * f) (sym (s .grid)) in
                 let near : (m - i) * f < end - t = j .short (m - i) (omega arith) in
-                some-at _ count k h (meets-hits load by times g k (begin + m * f) meets (omega arith) (omega arith))
+                some-at _ (b .count) k h (meets-hits lens links b g span k (begin + m * f) meets (omega arith) (omega arith))
           ];
-      passed = passed-more (t + steps * f) (omega arith) (λ v l. over-misses load by times g k v (omega (arith, j .reaches)));
+      passed = passed-more (t + steps * f) (omega arith) (λ v l. over-misses lens links b g span k v (omega (arith, j .reaches)));
     }
 
     -- ---- the two ends
 
-    -- no placed packet is in the way: time i is the first gap
-    sweep-gap : (slots : ℕ) → i < slots → ((j : ℕ) → k ≤ j → j < count → hits load by times g t j ≡ false)
-        → At t (i + 1) ≡ gapAt f begin slots (firstGap load by count times g f begin slots)
+    -- no stretch is in the way: time i is the first gap
+    sweep-gap : (slots : ℕ) → i < slots → ((j : ℕ) → k ≤ j → j < b .count → hits lens links b g span t j ≡ false)
+        → At t (i + 1) ≡ gapAt f begin slots (firstGap lens links b g span f begin slots)
     unfolding firstGap gapAt
     sweep-gap slots h none =
-        let clear : some (hits load by times g (begin + i * f)) count ≡ false =
-        some-none _ count (λ j l.
+        let clear : some (hits lens links b g span (begin + i * f)) (b .count) ≡ false =
+        some-none _ (b .count) (λ j l.
         elim (decLe k j) [
           | yes a ↦ rw (sym (s .grid)) (none j a l)
           | no a ↦ rw (sym (s .grid)) (s .passed j (lt-of-not-le a) t (omega arith))
         ]) in
-        let is : first (λ m. not (some (hits load by times g (begin + m * f)) count)) slots ≡ i =
+        let is : first (λ m. not (some (hits lens links b g span (begin + m * f)) (b .count))) slots ≡ i =
         first-is _ slots i h (ap not clear) (λ m l. ap not (s .blocked m l)) in
         rw (is, lt-ltb i slots h) (ap (λ (n : ℕ). At n (i + 1)) (s .grid))
 
-    -- all placed packets are passed
-    pub sweep-clear : (slots : ℕ) → i < slots → count ≤ k → At t (i + 1) ≡ gapAt f begin slots (firstGap load by count times g f begin slots)
+    -- all stretchs are passed
+    pub sweep-clear : (slots : ℕ) → i < slots → b .count ≤ k → At t (i + 1) ≡ gapAt f begin slots (firstGap lens links b g span f begin slots)
     sweep-clear slots h l = sweep-gap slots h (λ j a b. absurd (omega arith))
 
     -- the next starts when the packet is over, and so do all after it
-    pub sweep-early : (slots : ℕ) → i < slots → Kept by count times → t + getD (load .occupancy) g 0 ≤ startOf by times k
-        → At t (i + 1) ≡ gapAt f begin slots (firstGap load by count times g f begin slots)
+    pub sweep-early : (slots : ℕ) → i < slots → Kept b → t + span ≤ startOf b k
+        → At t (i + 1) ≡ gapAt f begin slots (firstGap lens links b g span f begin slots)
     sweep-early slots h kept l =
-        sweep-gap slots h (λ j a b. let r = kept .rising k j a b in later-misses load by times g j t (omega arith))
+        sweep-gap slots h (λ j a n. let r = kept .order .rising k j a n in later-misses lens links b g span j t (omega arith))
 
     -- every time was tried
-    pub sweep-none : (slots : ℕ) → slots ≤ i → Nowhere slots ≡ gapAt f begin slots (firstGap load by count times g f begin slots)
+    pub sweep-none : (slots : ℕ) → slots ≤ i → Nowhere slots ≡ gapAt f begin slots (firstGap lens links b g span f begin slots)
     unfolding firstGap gapAt
     sweep-none slots h =
-        let is : first (λ m. not (some (hits load by times g (begin + m * f)) count)) slots ≡ slots =
+        let is : first (λ m. not (some (hits lens links b g span (begin + m * f)) (b .count))) slots ≡ slots =
         first-none _ slots (λ m l. ap not (s .blocked m (omega arith))) in
         rw (is, le-ltb slots slots (omega arith)) refl

@@ -2,5 +2,6 @@
 pub mod Placing
 pub mod Order
 pub mod Lists
-pub mod Kept
+pub mod Busy
+pub mod Keep
 pub mod Held

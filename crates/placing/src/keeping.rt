@@ -1,71 +1,93 @@
-// Where a packet goes among those placed, and the placed packets with it, kept in order of their start.
+// The busy stretches with one more packet, kept in order of their start.
 use crate::shift::put_in;
-use crate::sweep::Placed;
+use crate::sweep::Extent;
 use crate::sweep::first_after;
-use crate::sweep::sweep;
 ghost use mathlib.Core.Path.{_≡_};
-ghost use mathlib.Core.List.{List};
-ghost use Prim.Native.Nat.{_+_, _<_};
-ghost use lib.ListN.{length, take};
-ghost use Rattle.packet.specs.Packet.{Packet};
-ghost use Rattle.placing.specs.Kept.{loadOf, Kept, Over};
-ghost use Rattle.placing.specs.Placing.{placingOf};
-ghost use Rattle.placing.specs.Held.{Held, Listed, Place, keptWith};
+ghost use Prim.Native.Nat.{_<_};
+ghost use Rattle.placing.specs.Busy.{busyOf, Paths};
+ghost use Rattle.placing.specs.Keep.{samePath, longer, follows, busyWith, Follows, Keep};
 
-// Where a sweep may begin: every placed packet before it is over at the time, even the longest.
-fn not_over(by: &[u16; 1024], count: usize, times: &[u32; 1024], time: u32, longest: u32) -> usize
-    requires { ⌜ Kept (now by) count (now times) ⌝ }
-    ensures { λ r. ⌜ Over (now (by .entry)) count (now (times .entry)) time longest r ⌝ }
+// Whether two flows have the same path.
+fn same_path(lens: &[usize; 64], links: &[u16; 2048], g: usize, h: usize) -> bool
+    requires { ⌜ Paths (now lens) (now links) × (g < 64) × (h < 64) ⌝ }
+    ensures { λ r. ⌜ r ≡ samePath (now (lens .entry)) (now (links .entry)) g h ⌝ }
 {
-    if time < longest {
-        return 0;
+    let len = lens[g];
+    if len != lens[h] {
+        return false;
     }
-    first_after(by, count, times, time - longest)
+    for a in 0..len {
+        if links[g * 32 + a] != links[h * 32 + a] {
+            return false;
+        }
+    }
+    true
 }
 
-// Where packet p goes, in steps of the pruning factor from its release: the first gap among the placed packets.
-pub fn place(
+// Whether the stretch before a place ends at a time and has the path of a flow.
+fn follows_on(
     by: &[u16; 1024],
-    count: usize,
-    times: &[u32; 1024],
-    flow: &[u16; 1024],
-    occupancy: &[u32; 64],
+    until: &[u32; 1024],
+    who: &[u16; 1024],
     lens: &[usize; 64],
     links: &[u16; 2048],
-    release: &[u32; 1024],
-    due: &[u32; 64],
-    longest: u32,
-    pruning: u32,
-    p: usize,
-) -> Placed
-    requires { ⌜ Place (loadOf (now flow) (now occupancy) (now lens) (now links)) (now release) (now due) (now by) count (now times) longest pruning p ⌝ }
-    ensures { λ r. ⌜ ((ps : List Packet) → Held ps (loadOf (now (flow .entry)) (now (occupancy .entry)) (now (lens .entry)) (now (links .entry))) (now (release .entry)) (now (due .entry)) → Listed ps (now (by .entry)) count (now (times .entry)) → p < length ps → r ≡ placingOf ps pruning (take (length ps) (now (times .entry))) p) ⌝ }
+    at: usize,
+    own: usize,
+    time: u32,
+) -> bool
+    requires { ⌜ Follows (now lens) (now links) (now by) (now who) at own ⌝ }
+    ensures { λ r. ⌜ r ≡ follows (now (lens .entry)) (now (links .entry)) (now (by .entry)) (now (until .entry)) (now (who .entry)) at own time ⌝ }
 {
-    let own = flow[p] as usize;
-    let begin = release[p];
-    let slots = (due[own] - occupancy[own]) / pruning + 1;
-    let from = not_over(by, count, times, begin, longest);
-    sweep(
-        by,
-        count,
-        times,
-        flow,
-        occupancy,
-        lens,
-        links,
-        own,
-        pruning,
-        begin,
-        slots,
-        from,
-    )
+    if at < 1 {
+        return false;
+    }
+    let k = by[at - 1] as usize;
+    if until[k] != time {
+        return false;
+    }
+    same_path(lens, links, own, who[k] as usize)
 }
 
-// Puts a packet in among the placed ones, by its time.
-pub fn keep(by: &mut [u16; 1024], count: usize, times: &[u32; 1024], time: u32, p: u16)
-    requires { ⌜ Kept (now by) count (now times) × (length (now by) ≡ 1024) × (count < 1024) ⌝ }
-    ensures { λ _. ⌜ now (by .exit) ≡ keptWith (now (by .entry)) count (now (times .entry)) time p ⌝ }
+// The longer of two lengths.
+fn longer_of(a: u32, b: u32) -> u32
+    ensures { λ r. ⌜ r ≡ longer a b ⌝ }
 {
-    let at = first_after(by, count, times, time);
-    put_in(by, at, count, p);
+    if a <= b { b } else { a }
+}
+
+// The stretches with a packet more, from a time up to an end: it makes the stretch longer that it follows on, or one of its own.
+pub fn keep(
+    by: &mut [u16; 1024],
+    from: &mut [u32; 1024],
+    until: &mut [u32; 1024],
+    who: &mut [u16; 1024],
+    extent: Extent,
+    lens: &[usize; 64],
+    links: &[u16; 2048],
+    own: u16,
+    time: u32,
+    end: u32,
+) -> Extent
+    requires { ⌜ Keep (now lens) (now links) (busyOf (now by) (now from) (now until) (now who) (extent .count) (extent .longest)) own time end ⌝ }
+    ensures { λ r. ⌜ busyOf (now (by .exit)) (now (from .exit)) (now (until .exit)) (now (who .exit)) (r .count) (r .longest) ≡ busyWith (now (lens .entry)) (now (links .entry)) (busyOf (now (by .entry)) (now (from .entry)) (now (until .entry)) (now (who .entry)) (extent .count) (extent .longest)) own time end ⌝ }
+{
+    let count = extent.count;
+    let longest = extent.longest;
+    let at = first_after(by, count, from, time);
+    if follows_on(by, until, who, lens, links, at, own as usize, time) {
+        let k = by[at - 1] as usize;
+        until[k] = end;
+        return Extent {
+            count,
+            longest: longer_of(longest, end - from[k]),
+        };
+    }
+    put_in(by, at, count, count as u16);
+    from[count] = time;
+    until[count] = end;
+    who[count] = own;
+    Extent {
+        count: count + 1,
+        longest: longer_of(longest, end - time),
+    }
 }

@@ -5,7 +5,8 @@ mod shift;
 mod sweep;
 
 pub use keeping::keep;
-pub use keeping::place;
 pub use ranking::in_order;
 pub use shift::put_in;
+pub use sweep::Extent;
 pub use sweep::Placed;
+pub use sweep::place;

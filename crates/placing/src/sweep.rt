@@ -1,11 +1,15 @@
-// Placing one packet among those placed: one forward sweep over them, in order of their start.
+// Placing one packet among the busy stretches: one forward sweep over them, in order of their start.
 ghost use mathlib.Core.Path.{_≡_};
-ghost use Prim.Native.Nat.{_≤_, _<_};
+ghost use mathlib.Core.List.{List};
+ghost use Prim.Native.Nat.{ℕ, _<_};
 ghost use lib.Dec.{ltb};
-ghost use lib.ListN.{length, getD};
+ghost use lib.ListN.{length};
 ghost use Rattle.basics.specs.First.{first};
 ghost use Rattle.mesh.specs.Share.{has};
-ghost use Rattle.placing.specs.Kept.{loadOf, pathIn, startOf, firstGap, gapAt, Kept, Sweep};
+ghost use Rattle.packet.specs.Packet.{Packet};
+ghost use Rattle.placing.specs.Busy.{pathIn, busyOf, entry, firstGap, gapAt, Ordered, Paths, Sweep, Over};
+ghost use Rattle.placing.specs.Placing.{placingOf};
+ghost use Rattle.placing.specs.Held.{loadOf, Held, Covers, Place};
 
 // Where a packet goes: the time taken, or nowhere; and how many times were tried.
 pub enum Placed {
@@ -13,9 +17,15 @@ pub enum Placed {
     Nowhere { tries: u32 },
 }
 
+// How many stretches there are, and a length that none is longer than.
+pub struct Extent {
+    pub count: usize,
+    pub longest: u32,
+}
+
 // Whether a link is on the path of a flow.
 fn on_path(lens: &[usize; 64], links: &[u16; 2048], flow: usize, link: u16) -> bool
-    requires { ⌜ (flow < 64) × (getD (now lens) flow 0 ≤ 32) × (length (now links) ≡ 2048) ⌝ }
+    requires { ⌜ Paths (now lens) (now links) × (flow < 64) ⌝ }
     ensures { λ r. ⌜ r ≡ has (pathIn (now (lens .entry)) (now (links .entry)) flow) link ⌝ }
 {
     for a in 0..lens[flow] {
@@ -26,17 +36,17 @@ fn on_path(lens: &[usize; 64], links: &[u16; 2048], flow: usize, link: u16) -> b
     false
 }
 
-// The first of the placed packets, in order of start, that starts after a time; by halves.
-pub fn first_after(by: &[u16; 1024], count: usize, times: &[u32; 1024], time: u32) -> usize
-    requires { ⌜ Kept (now by) count (now times) ⌝ }
-    ensures { λ r. ⌜ r ≡ first (λ j. ltb time (startOf (now (by .entry)) (now (times .entry)) j)) count ⌝ }
+// The first of the stretches, in order of start, that starts after a time; by halves.
+pub fn first_after(by: &[u16; 1024], count: usize, from: &[u32; 1024], time: u32) -> usize
+    requires { ⌜ Ordered (now by) count (now from) ⌝ }
+    ensures { λ r. ⌜ r ≡ first (λ j. ltb time (entry (now (by .entry)) (now (from .entry)) j)) count ⌝ }
 {
     let mut low = 0;
     let mut high = count;
     while low < high {
         let middle = low + (high - low) / 2;
-        let q = by[middle] as usize;
-        if times[q] <= time {
+        let k = by[middle] as usize;
+        if from[k] <= time {
             low = middle + 1;
         } else {
             high = middle;
@@ -45,64 +55,120 @@ pub fn first_after(by: &[u16; 1024], count: usize, times: &[u32; 1024], time: u3
     low
 }
 
-// The first gap for a packet of a flow from a time on, in steps of the pruning factor. Where a placed packet is in the way, so it is
-// at every time before its end: the next time is the first past it, and those jumped over count as tried. Placed packets that are
-// over stay over, so the sweep never goes back; one that starts after the packet's end ends it, since all later ones start later.
+// The first gap for a packet of a flow from a time on, in steps of the pruning factor. Where a stretch is in the way, so it is at every
+// time before its end: the next time is the first past it, and those jumped over count as tried. Stretches that are over stay over, so
+// the sweep never goes back; one that starts after the packet's end ends it, since all later ones start later.
 pub fn sweep(
     by: &[u16; 1024],
     count: usize,
-    times: &[u32; 1024],
-    flow: &[u16; 1024],
-    occupancy: &[u32; 64],
+    from: &[u32; 1024],
+    until: &[u32; 1024],
+    who: &[u16; 1024],
+    longest: u32,
     lens: &[usize; 64],
     links: &[u16; 2048],
     own: usize,
+    span: u32,
     pruning: u32,
     begin: u32,
     slots: u32,
-    from: usize,
+    at: usize,
 ) -> Placed
-    requires { ⌜ Sweep (loadOf (now flow) (now occupancy) (now lens) (now links)) (now by) count (now times) own pruning begin from ⌝ }
-    ensures { λ r. ⌜ r ≡ gapAt pruning begin slots (firstGap (loadOf (now (flow .entry)) (now (occupancy .entry)) (now (lens .entry)) (now (links .entry))) (now (by .entry)) count (now (times .entry)) own pruning begin slots) ⌝ }
+    requires { ⌜ Sweep (now lens) (now links) (busyOf (now by) (now from) (now until) (now who) count longest) own span pruning begin at ⌝ }
+    ensures { λ r. ⌜ r ≡ gapAt pruning begin slots (firstGap (now (lens .entry)) (now (links .entry)) (busyOf (now (by .entry)) (now (from .entry)) (now (until .entry)) (now (who .entry)) count longest) own span pruning begin slots) ⌝ }
 {
-    let span = occupancy[own];
     let len = lens[own];
-    let mut k = from;
+    let mut j = at;
     let mut i: u32 = 0;
     let mut t = begin;
     'times: loop {
         if slots <= i {
             break Placed::Nowhere { tries: slots };
         }
-        while k < count {
-            let q = by[k] as usize;
-            let start = times[q];
-            if t + span <= start {
+        while j < count {
+            let k = by[j] as usize;
+            if t + span <= from[k] {
                 break 'times Placed::At {
                     time: t,
                     tries: i + 1,
                 };
             }
-            let other = flow[q] as usize;
-            let end = start + occupancy[other];
+            let end = until[k];
             if end <= t {
-                k += 1;
+                j += 1;
                 continue;
             }
+            let other = who[k] as usize;
             for a in 0..len {
                 if on_path(lens, links, other, links[own * 32 + a]) {
                     let steps = (end - t + pruning - 1) / pruning;
                     i += steps;
                     t += steps * pruning;
-                    k += 1;
+                    j += 1;
                     continue 'times;
                 }
             }
-            k += 1;
+            j += 1;
         }
         break Placed::At {
             time: t,
             tries: i + 1,
         };
     }
+}
+
+// Where a sweep may begin: every stretch before it is over at the time, even the longest.
+fn not_over(by: &[u16; 1024], count: usize, from: &[u32; 1024], time: u32, longest: u32) -> usize
+    requires { ⌜ Ordered (now by) count (now from) ⌝ }
+    ensures { λ r. ⌜ Over (now (by .entry)) count (now (from .entry)) time longest r ⌝ }
+{
+    if time < longest {
+        return 0;
+    }
+    first_after(by, count, from, time - longest)
+}
+
+// Where packet p goes, in steps of the pruning factor from its release: the first gap among the stretches, which are what the placed
+// packets of a table hold.
+pub fn place(
+    by: &[u16; 1024],
+    from: &[u32; 1024],
+    until: &[u32; 1024],
+    who: &[u16; 1024],
+    extent: Extent,
+    flow: &[u16; 1024],
+    occupancy: &[u32; 64],
+    lens: &[usize; 64],
+    links: &[u16; 2048],
+    release: &[u32; 1024],
+    due: &[u32; 64],
+    pruning: u32,
+    p: usize,
+) -> Placed
+    requires { ⌜ Place (loadOf (now flow) (now occupancy) (now lens) (now links)) (now release) (now due) (busyOf (now by) (now from) (now until) (now who) (extent .count) (extent .longest)) pruning p ⌝ }
+    ensures { λ r. ⌜ ((ps : List Packet) → (table : List ℕ) → Held ps (loadOf (now (flow .entry)) (now (occupancy .entry)) (now (lens .entry)) (now (links .entry))) (now (release .entry)) (now (due .entry)) → Covers ps (now (lens .entry)) (now (links .entry)) (busyOf (now (by .entry)) (now (from .entry)) (now (until .entry)) (now (who .entry)) (extent .count) (extent .longest)) table → p < length ps → r ≡ placingOf ps pruning table p) ⌝ }
+{
+    let own = flow[p] as usize;
+    let begin = release[p];
+    let span = occupancy[own];
+    let slots = (due[own] - span) / pruning + 1;
+    let count = extent.count;
+    let longest = extent.longest;
+    let at = not_over(by, count, from, begin, longest);
+    sweep(
+        by,
+        count,
+        from,
+        until,
+        who,
+        longest,
+        lens,
+        links,
+        own,
+        span,
+        pruning,
+        begin,
+        slots,
+        at,
+    )
 }

@@ -23,17 +23,17 @@ loop-holds : tie.Need-loop-holds Inv-loop μ-loop
 loop-holds c = searching-start (search needs) refl (c .in-order .ensures)
 
 pass-requires : tie.Need-pass-requires Inv-loop μ-loop
-pass-requires c κs = 
+pass-requires c κs =
     let s = c .before .before .before .before .pre in
     record { ps = s .ps; ready = s .ready; carried = c .before .before .loop .inv .stands (s .ps) (s .ready) (s .count) .carried; count = s .count }
 
 add-passes : tie.Need-add-passes Inv-loop μ-loop
-add-passes c = 
+add-passes c =
     let s = c .before .before .before .before .before .pre in
     omega (arith, passes-few (c .before .before .before .loop .inv) (s .ready) (s .count), passes-least (s .ps) (c .before .before .before .before .before .args .threshold) (s .ready .held .few) (s .ready .high))
 
 add-tries : tie.Need-add-tries Inv-loop μ-loop
-add-tries c = 
+add-tries c =
     let s = c .before .before .before .before .before .before .pre in
     omega (arith, passes-few (c .before .before .before .before .loop .inv) (s .ready) (s .count), passes-least (s .ps) (c .before .before .before .before .before .before .args .threshold) (s .ready .held .few) (s .ready .high), c .before .before .before .before .loop .inv .stands (s .ps) (s .ready) (s .count) .bounded, c .before .pass .ensures (s .ps) (s .ready) (c .before .before .before .before .loop .inv .stands (s .ps) (s .ready) (s .count) .carried) (s .count) .bounded)
 
@@ -41,7 +41,7 @@ returns : tie.Need-returns Inv-loop μ-loop
 returns c = λ ps ready count. stands-end (c .before .before .before .before .before .before .loop .inv) ready count (c .before .before .before .pass .ensures ps ready (c .before .before .before .before .before .before .loop .inv .stands ps ready count .carried) count) (c .before .if1 .taken)
 
 loop-less : tie.Need-loop-less Inv-loop μ-loop
-loop-less c = 
+loop-less c =
     let s = c .before .before .before .before .before .before .before .pre in
     let same : c .before .before .before .before .before .before .before .args .n * (c .before .before .before .before .before .before .before .args .threshold - 1) ≡ length (s .ps) * (c .before .before .before .before .before .before .before .args .threshold - 1) = ap (λ (k : ℕ). k * (c .before .before .before .before .before .before .before .args .threshold - 1)) (s .count) in
     omega (arith, passes-few (c .before .before .before .before .before .loop .inv) (s .ready) (s .count), passes-least (s .ps) (c .before .before .before .before .before .before .before .args .threshold) (s .ready .held .few) (s .ready .high))

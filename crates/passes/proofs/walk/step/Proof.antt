@@ -14,12 +14,12 @@ element-copy-out-packet : tie.Need-element-copy-out-packet
 element-copy-out-packet c = omega (arith, c .pre .more, c .pre .ready .held .few)
 
 cast-p : tie.Need-cast-p
-cast-p c = 
+cast-p c =
     let s = c .before in
     omega (arith, next-in (s .pre .ready) (s .pre .going) (s .pre .more), s .pre .ready .held .few)
 
 place-requires : tie.Need-place-requires
-place-requires c κs = 
+place-requires c κs =
     let s = c .before .before .before in
     place-asks (s .pre .ready) (s .pre .going) (s .pre .more)
 
@@ -27,17 +27,17 @@ enum-known-placed : tie.Need-enum-known-placed
 enum-known-placed c = search needs
 
 settle-requires : tie.Need-settle-requires
-settle-requires c κs = 
+settle-requires c κs =
     let s = c .before .before .before .before .before .before .before .before .before in
     record { kept = s .pre .going .kept; by-long = s .pre .going .by-long; times-long = s .pre .going .times-long; room = omega (arith, s .pre .going .few, s .pre .more, s .pre .ready .held .few); within = omega (arith, next-in (s .pre .ready) (s .pre .going) (s .pre .more), s .pre .ready .held .few) }
 
 add-t35 : tie.Need-add-t35
-add-t35 c = 
+add-t35 c =
     let s = c .before .before .before .before .before .before .before .before .before .before in
     omega (arith, s .pre .more, s .pre .ready .held .few)
 
 add-t36 : tie.Need-add-t36
-add-t36 c = 
+add-t36 c =
     let s = c .before .before .before .before .before .before .before .before .before .before in
     omega (arith, s .pre .going .few, s .pre .more, s .pre .ready .held .few)
 
@@ -45,7 +45,7 @@ cast-t37 : tie.Need-cast-t37
 cast-t37 c = search needs
 
 add-t38 : tie.Need-add-t38
-add-t38 c = 
+add-t38 c =
     let s = c .before .before .before .before .before .before .before .before .before .before .before in
     omega (arith, tries-few (s .pre .ready) (s .pre .going) (s .pre .more) (c .before .before .before .before .before .before .before .place .ensures (s .pre .ps) (s .pre .ready .held) (s .pre .going .listed) (next-in (s .pre .ready) (s .pre .going) (s .pre .more))) (c .before .before .before .before .before .placed .given .1), s .pre .going .bounded, s .pre .more, s .pre .ready .held .few)
 
@@ -53,12 +53,12 @@ enum-known-placed-2 : tie.Need-enum-known-placed-2
 enum-known-placed-2 c = search needs
 
 raise-requires : tie.Need-raise-requires
-raise-requires c κs = 
+raise-requires c κs =
     let s = c .before .before .before .before .before .before .before .before in
     record { long = s .pre .going .carried .fails-long; within = omega (arith, next-in (s .pre .ready) (s .pre .going) (s .pre .more), s .pre .ready .held .few); low = omega (arith, next-below (s .pre .ready) (s .pre .going) (s .pre .more), s .pre .ready .high) }
 
 put-in-requires : tie.Need-put-in-requires
-put-in-requires c κs = 
+put-in-requires c κs =
     let s = c .before .before .before .before .before .before .before .before .before .before in
     record { long = s .pre .going .carried .order-long; order = s .pre .going .low; within = omega (arith, s .pre .more, s .pre .ready .held .few) }
 
@@ -69,7 +69,7 @@ cast-t44 : tie.Need-cast-t44
 cast-t44 c = search needs
 
 add-t45 : tie.Need-add-t45
-add-t45 c = 
+add-t45 c =
     let s = c .before .before .before .before .before .before .before .before .before .before .before .before .before in
     omega (arith, all-few (s .pre .ready) (s .pre .going) (s .pre .more) (c .before .before .before .before .before .before .before .before .before .place .ensures (s .pre .ps) (s .pre .ready .held) (s .pre .going .listed) (next-in (s .pre .ready) (s .pre .going) (s .pre .more))) (c .before .before .before .before .before .before .before .placed2 .given .1), s .pre .going .bounded, s .pre .more, s .pre .ready .held .few)
 
@@ -77,12 +77,12 @@ returns : tie.Need-returns
 returns c = λ ps ready going more. rw (c .before .before .put-in .ensures, c .before .before .before .before .raise .ensures .1) (after-failed ready going more (c .before .before .before .before .before .before .before .before .before .place .ensures ps (ready .held) (going .listed) (next-in ready going more)) (c .before .before .before .before .before .before .before .placed2 .given .1) (rw (sym (c .before .before .before .before .raise .ensures .0)) (c .before .if1 .taken)))
 
 add-t46 : tie.Need-add-t46
-add-t46 c = 
+add-t46 c =
     let s = c .before .before .before .before .before .before .before .before .before .before .before .before in
     omega (arith, s .pre .going .low, s .pre .more, s .pre .ready .held .few)
 
 add-t47 : tie.Need-add-t47
-add-t47 c = 
+add-t47 c =
     let s = c .before .before .before .before .before .before .before .before .before .before .before .before in
     omega (arith, s .pre .more, s .pre .ready .held .few)
 
@@ -90,7 +90,7 @@ cast-t48 : tie.Need-cast-t48
 cast-t48 c = search needs
 
 add-t49 : tie.Need-add-t49
-add-t49 c = 
+add-t49 c =
     let s = c .before .before .before .before .before .before .before .before .before .before .before .before .before in
     omega (arith, all-few (s .pre .ready) (s .pre .going) (s .pre .more) (c .before .before .before .before .before .before .before .before .before .place .ensures (s .pre .ps) (s .pre .ready .held) (s .pre .going .listed) (next-in (s .pre .ready) (s .pre .going) (s .pre .more))) (c .before .before .before .before .before .before .before .placed2 .given .1), s .pre .going .bounded, s .pre .more, s .pre .ready .held .few)
 

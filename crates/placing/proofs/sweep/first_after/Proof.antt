@@ -2,20 +2,20 @@
 use Prim.Native.Nat.{_+_, _-_, _/_, _≤_}
 use mathlib.Core.Path.{sym}
 use native.Mathlib.Omega.{arith}
-use Rattle.placing.specs.Kept.{startOf}
+use Rattle.placing.specs.Busy.{entry}
 use Rattle.placing.proofs.Halving.{Halving, halving-start, halving-up, halving-down, halving-end}
 use borrow.Author.Needs.{needs}
 use Rattle.placing.proofs.sweep.first_after.Statement.{statement}
 use Rattle.placing.proofs.sweep.first_after.Tie as tie
 
 abbrev Inv-loop : tie.InvT-loop
-Inv-loop by count times time low₀ high₀ low high = Halving (startOf by times) count time low high × (count ≤ 1024)
+Inv-loop by count from time low₀ high₀ low high = Halving (entry by from) count time low high × (count ≤ 1024)
 
 abbrev μ-loop : tie.MeasureT-loop
-μ-loop by count times time low₀ high₀ low high = high - low
+μ-loop by count from time low₀ high₀ low high = high - low
 
 loop-holds : tie.Need-loop-holds Inv-loop μ-loop
-loop-holds c = (halving-start _ _ _, c .pre .few)
+loop-holds c = (halving-start, c .pre .few)
 
 sub-middle : tie.Need-sub-middle Inv-loop μ-loop
 sub-middle c = search needs
@@ -23,20 +23,20 @@ sub-middle c = search needs
 add-middle : tie.Need-add-middle Inv-loop μ-loop
 add-middle c = search needs
 
-mul-q : tie.Need-mul-q Inv-loop μ-loop
-mul-q c = search needs
+mul-k : tie.Need-mul-k Inv-loop μ-loop
+mul-k c = search needs
 
-element-copy-out-q : tie.Need-element-copy-out-q Inv-loop μ-loop
-element-copy-out-q c = search needs
+element-copy-out-k : tie.Need-element-copy-out-k Inv-loop μ-loop
+element-copy-out-k c = search needs
 
-cast-q : tie.Need-cast-q Inv-loop μ-loop
-cast-q c = omega (arith, c .before .before .before .pre .listed (c .before .before .loop .low + (c .before .before .loop .high - c .before .before .loop .low) / 2) (omega (arith, c .before .before .loop .inv .0, c .before .loop-test .taken)))
+cast-k : tie.Need-cast-k Inv-loop μ-loop
+cast-k c = omega (arith, c .before .before .before .pre .listed (c .before .before .loop .low + (c .before .before .loop .high - c .before .before .loop .low) / 2) (omega (arith, c .before .before .loop .inv .0, c .before .loop-test .taken)), c .before .before .before .pre .few)
 
 mul-if1 : tie.Need-mul-if1 Inv-loop μ-loop
-mul-if1 c = omega (arith, c .before .before .before .pre .listed (c .before .before .loop .low + (c .before .before .loop .high - c .before .before .loop .low) / 2) (omega (arith, c .before .before .loop .inv .0, c .before .loop-test .taken)))
+mul-if1 c = omega (arith, c .before .before .before .pre .listed (c .before .before .loop .low + (c .before .before .loop .high - c .before .before .loop .low) / 2) (omega (arith, c .before .before .loop .inv .0, c .before .loop-test .taken)), c .before .before .before .pre .few)
 
 element-copy-out-if1 : tie.Need-element-copy-out-if1 Inv-loop μ-loop
-element-copy-out-if1 c = c .before .before .before .pre .listed _ (omega (arith, c .before .before .loop .inv .0, c .before .loop-test .taken))
+element-copy-out-if1 c = omega (arith, c .before .before .before .pre .listed (c .before .before .loop .low + (c .before .before .loop .high - c .before .before .loop .low) / 2) (omega (arith, c .before .before .loop .inv .0, c .before .loop-test .taken)), c .before .before .before .pre .few)
 
 add-low : tie.Need-add-low Inv-loop μ-loop
 add-low c = search needs
@@ -45,20 +45,18 @@ loop-less : tie.Need-loop-less Inv-loop μ-loop
 loop-less c = search needs
 
 loop-again : tie.Need-loop-again Inv-loop μ-loop
-unfolding startOf
-loop-again c =
-    (halving-up (startOf (c .before .before .before .before .before .args .by .now) (c .before .before .before .before .before .args .times .now)) (c .before .before .before .before .before .args .count) (c .before .before .before .before .before .args .time) (c .before .before .before .before .before .pre .rising) (c .before .before .before .before .loop .low) (c .before .before .before .before .loop .high) (c .before .before .before .before .loop .low + (c .before .before .before .before .loop .high - c .before .before .before .before .loop .low) / 2) (c .before .before .before .before .loop .inv .0) (omega arith) (omega (arith, c .before .before .before .loop-test .taken)) (c .if1 .taken), c .before .before .before .before .loop .inv .1)
+unfolding entry
+loop-again c = (halving-up (c .before .before .before .before .before .pre .rising) (c .before .before .before .before .loop .inv .0) (omega arith) (omega (arith, c .before .before .before .loop-test .taken)) (c .if1 .taken), c .before .before .before .before .loop .inv .1)
 
 loop-less-2 : tie.Need-loop-less-2 Inv-loop μ-loop
 loop-less-2 c = search needs
 
 loop-again-2 : tie.Need-loop-again-2 Inv-loop μ-loop
-unfolding startOf
-loop-again-2 c =
-    (halving-down (startOf (c .before .before .before .before .before .args .by .now) (c .before .before .before .before .before .args .times .now)) (c .before .before .before .before .before .args .count) (c .before .before .before .before .before .args .time) (c .before .before .before .before .before .pre .rising) (c .before .before .before .before .loop .low) (c .before .before .before .before .loop .high) (c .before .before .before .before .loop .low + (c .before .before .before .before .loop .high - c .before .before .before .before .loop .low) / 2) (c .before .before .before .before .loop .inv .0) (omega arith) (omega (arith, c .before .before .before .loop-test .taken)) (c .if1 .left), c .before .before .before .before .loop .inv .1)
+unfolding entry
+loop-again-2 c = (halving-down (c .before .before .before .before .before .pre .rising) (c .before .before .before .before .loop .inv .0) (omega arith) (omega (arith, c .before .before .before .loop-test .taken)) (c .if1 .left), c .before .before .before .before .loop .inv .1)
 
 returns : tie.Need-returns Inv-loop μ-loop
-returns c = sym (halving-end (startOf (c .before .before .args .by .now) (c .before .before .args .times .now)) (c .before .before .args .count) (c .before .before .args .time) _ _ (c .before .loop .inv .0) (c .loop-test .left))
+returns c = sym (halving-end (c .before .loop .inv .0) (c .loop-test .left))
 
 pub first-after-spec : {M : Type 1} → statement M
 first-after-spec =
@@ -69,9 +67,9 @@ first-after-spec =
     loop-holds
     sub-middle
     add-middle
-    mul-q
-    element-copy-out-q
-    cast-q
+    mul-k
+    element-copy-out-k
+    cast-k
     mul-if1
     element-copy-out-if1
     add-low

@@ -7,7 +7,7 @@ use lib.ListN.{getD}
 use native.Mathlib.Omega.{arith}
 use borrow.Author.Count.{below-none, below-more}
 use borrow.Author.Tests.{ne-eqb}
-use Rattle.placing.proofs.Sweeping.{path-has, path-lacks}
+use Rattle.placing.proofs.Paths.{path-has, path-lacks}
 use borrow.Author.Needs.{needs}
 use Rattle.placing.proofs.sweep.on_path.Statement.{statement}
 use Rattle.placing.proofs.sweep.on_path.Tie as tie
@@ -28,22 +28,22 @@ loop-holds : tie.Need-loop-holds Inv-loop μ-loop
 loop-holds c = (search needs, refl, below-none _)
 
 mul-if1 : tie.Need-mul-if1 Inv-loop μ-loop
-mul-if1 c = search needs
+mul-if1 c = omega (arith, c .before .before .before .pre .0 .short (c .before .before .before .args .flow) (c .before .before .before .pre .1), c .before .before .before .pre .1, c .before .loop .inv .1, c .loop-test .taken)
 
 add-if1 : tie.Need-add-if1 Inv-loop μ-loop
-add-if1 c = search needs
+add-if1 c = omega (arith, c .before .before .before .pre .0 .short (c .before .before .before .args .flow) (c .before .before .before .pre .1), c .before .before .before .pre .1, c .before .loop .inv .1, c .loop-test .taken)
 
 mul-if1-2 : tie.Need-mul-if1-2 Inv-loop μ-loop
-mul-if1-2 c = search needs
+mul-if1-2 c = omega (arith, c .before .before .before .pre .0 .short (c .before .before .before .args .flow) (c .before .before .before .pre .1), c .before .before .before .pre .1, c .before .loop .inv .1, c .loop-test .taken)
 
 element-copy-out-if1 : tie.Need-element-copy-out-if1 Inv-loop μ-loop
-element-copy-out-if1 c = search needs
+element-copy-out-if1 c = omega (arith, c .before .before .before .pre .0 .short (c .before .before .before .args .flow) (c .before .before .before .pre .1), c .before .before .before .pre .1, c .before .loop .inv .1, c .loop-test .taken)
 
 returns : tie.Need-returns Inv-loop μ-loop
-returns c = sym (path-has (c .before .before .before .before .before .args .lens .now) (c .before .before .before .before .before .args .links .now) (c .before .before .before .before .before .args .flow) (c .before .before .before .before .before .pre .0) (c .before .before .before .before .before .pre .1) (c .before .before .before .before .before .pre .2) _ (c .before .before .before .loop .a) (omega (arith, c .before .before .before .loop .inv .1, c .before .before .loop-test .taken)) (c .if1 .taken))
+returns c = sym (path-has (c .before .before .before .before .before .pre .0) _ (c .before .before .before .before .before .pre .1) _ (c .before .before .before .loop .a) (omega (arith, c .before .before .before .loop .inv .1, c .before .before .loop-test .taken)) (c .if1 .taken))
 
 add-a : tie.Need-add-a Inv-loop μ-loop
-add-a c = search needs
+add-a c = omega (arith, c .before .before .before .before .before .pre .0 .short (c .before .before .before .before .before .args .flow) (c .before .before .before .before .before .pre .1), c .before .before .before .loop .inv .1, c .before .before .loop-test .taken)
 
 loop-less : tie.Need-loop-less Inv-loop μ-loop
 loop-less c = search needs
@@ -52,7 +52,7 @@ loop-again : tie.Need-loop-again Inv-loop μ-loop
 loop-again c = (omega (arith, c .before .before .loop-test .taken), c .before .before .before .loop .inv .1, below-more _ _ (c .before .before .before .loop .inv .2) (ne-eqb _ _ (c .if1 .left)))
 
 returns-2 : tie.Need-returns-2 Inv-loop μ-loop
-returns-2 c = sym (path-lacks (c .before .before .before .args .lens .now) (c .before .before .before .args .links .now) (c .before .before .before .args .flow) (c .before .before .before .pre .0) (c .before .before .before .pre .1) (c .before .before .before .pre .2) _ (λ k h. c .before .loop .inv .2 k (omega (arith, c .before .loop .inv .1, c .loop-test .left))))
+returns-2 c = sym (path-lacks (c .before .before .before .pre .0) _ (c .before .before .before .pre .1) _ (λ k h. c .before .loop .inv .2 k (omega (arith, c .before .loop .inv .1, c .loop-test .left))))
 
 pub on-path-spec : {M : Type 1} → statement M
 on-path-spec =
