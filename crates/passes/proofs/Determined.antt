@@ -8,7 +8,7 @@ use denote.Ref.{now}
 use denote.Triple.Clauses.{AtExit}
 use borrow.Fn.Kinds.{Dens, resT, endedOf}
 use Rattle.packet.specs.Packet.{Packet}
-use Rattle.placing.specs.Kept.{loadOf}
+use Rattle.placing.specs.Held.{loadOf}
 use Rattle.passes.specs.State.{Ready}
 use Rattle.passes.specs.Search.{foundOf}
 use Rattle.passes.proofs.repeat.rounds.Reads as rounds
@@ -18,6 +18,6 @@ use Rattle.passes.proofs.repeat.rounds.Kinds as rounds-kinds
 pub rounds-determined : (κs : Lfts 7) (a : Dens κs rounds-kinds.ps) (x y : resT rounds-kinds.r κs .Denot)
     (s t : AtExit (endedOf 7 rounds-kinds.ps rounds-kinds.r) κs) (ps : List Packet)
     → Ready ps (loadOf (now (a .1 .1 .0)) (now (a .1 .1 .1 .0)) (now (a .1 .1 .1 .1 .0)) (now (a .1 .1 .1 .1 .1 .0))) (now (a .1 .1 .1 .1 .1 .1 .0))
-    (now (a .1 .1 .1 .1 .1 .1 .1 .0)) (a .1 .1 .1 .1 .1 .1 .1 .1 .0) (a .1 .1 .1 .1 .1 .1 .1 .1 .1 .0) (a .1 .1 .1 .1 .1 .1 .1 .1 .1 .1 .0)
+    (now (a .1 .1 .1 .1 .1 .1 .1 .0)) (a .1 .1 .1 .1 .1 .1 .1 .1 .0) (a .1 .1 .1 .1 .1 .1 .1 .1 .1 .0)
     → a .1 .0 ≡ length ps → rounds.Post κs a x s → rounds.Post κs a y t → foundOf (length ps) x ≡ foundOf (length ps) y
 rounds-determined κs a x y s t ps ready count p q = p ps ready count .same ∙ sym (q ps ready count .same)

@@ -1,35 +1,30 @@
 -- One step of a pass where no time will do: the packet moves to the front, or is skipped.
 use mathlib.Core.Path.{_≡_, refl, sym, _∙_, ap, ap₂}
 use mathlib.Core.Bool.{true, false, false≢true}
-use mathlib.Core.List.{List, _∷_}
+use mathlib.Core.List.{List}
 use Prim.Native.Nat.{ℕ, _+_, _≤_, _<_}
 use native.Mathlib.Decide.{ℕ-discrete}
 use native.Mathlib.Omega.{arith}
 use lib.ListN.{length, getD, set, take, length-set}
-use lib.Seq.{slice, getD-take, getD-set-same, getD-set-other, take-set-lt}
-use Rattle.basics.proofs.Choose.{not-passing}
-use Rattle.time.specs.Hyper.{most}
-use Rattle.time.specs.Units.{latestOf}
+use lib.Seq.{slice, getD-set-same, getD-set-other, take-set-lt}
 use Rattle.packet.specs.Packet.{Packet}
 use Rattle.packet.specs.Table.{packetAt}
-use Rattle.placing.specs.Placing.{placed, takenOf, placingOf}
+use Rattle.placing.specs.Placing.{placingOf}
 use Rattle.placing.specs.Order.{occurs}
 use Rattle.placing.specs.Lists.{shifted}
-use Rattle.placing.specs.Kept.{Load}
-use Rattle.placing.specs.Held.{Place, keptWith}
+use Rattle.placing.specs.Held.{Load}
 use Rattle.placing.proofs.Shifting.{shifted-length}
 use Rattle.placing.proofs.Ordering.{occurs-append, occurs-same}
-use Rattle.placing.proofs.OneMore.{kept-more, kept-length, placed-other, not-listed, listed-more}
 use Rattle.placing.specs.declared.sweep.Placed.{Placed}
 use Rattle.placing.specs.declared.sweep.Placed.the-variants.{Nowhere}
 use Rattle.passes.specs.Pass.{raised, passFrom}
 use Rattle.passes.specs.State.{State, outcome, Ready, Carried, Going, Stepped}
-use Rattle.passes.proofs.Parts.{rest-next, taken-more, list-moved, list-without, taken-moved, rest-moved, list-occurs, each-moved}
+use Rattle.passes.proofs.Parts.{list-moved, list-without, taken-moved, rest-moved, list-occurs, each-moved}
 use Rattle.passes.proofs.Stepping.{nextOf, long, next-in, list-once, behind, rises, here, latest-small}
-use Rattle.passes.proofs.PassSteps.{pass-placed, pass-broken, pass-skipped, Taken, placing-at, placing-nowhere, slots-few, time-latest}
+use Rattle.passes.proofs.PassSteps.{pass-broken, pass-skipped, placing-nowhere, slots-few}
 
-module _ {ps : List Packet} {load : Load} {release due : List ℕ} {longest f g : ℕ} (ready : Ready ps load release due longest f g)
-    {s : State} (going : Going ps g s) (more : s .at < length ps) {r : Placed}
+module _ {ps : List Packet} {load : Load} {release due : List ℕ} {f g : ℕ} (ready : Ready ps load release due f g)
+    {s : State} (going : Going ps (load .lens) (load .links) g s) (more : s .at < length ps) {r : Placed}
     (placing : r ≡ placingOf ps f (take (length ps) (s .times)) (nextOf s)) {m : ℕ} (nowhere : r ≡ Nowhere m) where
   e : placingOf ps f (take (length ps) (s .times)) (nextOf s) ≡ Nowhere m
   e = sym placing ∙ nowhere
@@ -76,14 +71,13 @@ module _ {ps : List Packet} {load : Load} {release due : List ℕ} {longest f g 
       )
 
   -- below G: a new pass begins with it at the front
-  pub after-failed : raised (s .fails) (nextOf s) < g → Stepped ps f g s record {
+  pub after-failed : raised (s .fails) (nextOf s) < g → Stepped ps (load .lens) (load .links) f g s record {
     order = fronted;
     fails = failed;
     times = s .times;
-    by = s .by;
+    busy = s .busy;
     base = s .base;
     at = s .at;
-    count = s .count;
     tries = s .tries + m;
     again = true;
   }
@@ -142,14 +136,13 @@ module _ {ps : List Packet} {load : Load} {release due : List ℕ} {longest f g 
   }
 
   -- at G: it is skipped, and the pass goes on
-  pub after-skipped : g ≤ raised (s .fails) (nextOf s) → Stepped ps f g s record {
+  pub after-skipped : g ≤ raised (s .fails) (nextOf s) → Stepped ps (load .lens) (load .links) f g s record {
     order = fronted;
     fails = failed;
     times = s .times;
-    by = s .by;
+    busy = s .busy;
     base = s .base + 1;
     at = s .at + 1;
-    count = s .count;
     tries = s .tries + m;
     again = false;
   }
@@ -170,12 +163,11 @@ module _ {ps : List Packet} {load : Load} {release due : List ℕ} {longest f g 
       carried = left-carried;
       on = refl;
       times-long = going .times-long;
-      by-long = going .by-long;
       low = omega (arith, going .low);
       high = omega arith;
       few = omega (arith, going .few);
       kept = going .kept;
-      listed = going .listed;
+      covers = going .covers;
       ahead = λ q l. ap (occurs q) (rest-moved (s .order) (s .base) (s .at) (length ps) (going .low) more (long ready going more)) ∙ behind ready going more q l;
       bounded = omega (arith, going .bounded, all-few);
     };

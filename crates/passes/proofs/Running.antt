@@ -10,7 +10,8 @@ use lib.ListN.{length, take, replicate, length-replicate, getD-replicate, List·
 use lib.Seq.{slice, slice-empty}
 use Rattle.packet.specs.Packet.{Packet}
 use Rattle.placing.specs.Placing.{none, placed}
-use Rattle.placing.specs.Kept.{Load}
+use Rattle.placing.specs.Busy.{busyOf}
+use Rattle.placing.specs.Held.{Load}
 use Rattle.passes.specs.Pass.{passFrom, passOver}
 use Rattle.passes.specs.State.{State, outcome, passedOf, Ready, Carried, Going, Stepped, Ran}
 use Rattle.passes.proofs.Stepping.{outcome-on}
@@ -31,18 +32,27 @@ nothing-placed n q =
     ]
 
 -- what a pass knows as it goes: for all packets that the arrays hold, it goes on, and leaves what the definition says
-pub record Running (load : Load) (release due : List ℕ) (longest f g : ℕ) (order fails : List ℕ) (base n : ℕ) (s : State) : Type 0 where
-  pub goes : (ps : List Packet) → Ready ps load release due longest f g → Carried ps g order fails base → n ≡ length ps → Going ps g s
-  pub same : (ps : List Packet) → Ready ps load release due longest f g → Carried ps g order fails base → n ≡ length ps
+pub record Running (load : Load) (release due : List ℕ) (f g : ℕ) (order fails : List ℕ) (base n : ℕ) (s : State) : Type 0 where
+  pub goes : (ps : List Packet) → Ready ps load release due f g → Carried ps g order fails base → n ≡ length ps → Going ps (load .lens) (load .links) g s
+  pub same : (ps : List Packet) → Ready ps load release due f g → Carried ps g order fails base → n ≡ length ps
       → outcome ps f g s ≡ passOver ps f g (slice base (length ps) order) (take (length ps) fails)
 
-module _ (load : Load) (release due : List ℕ) (longest f g : ℕ) (order fails : List ℕ) (base n : ℕ) where
+module _ {load : Load} {release due : List ℕ} {f g : ℕ} {order fails : List ℕ} {base n : ℕ} where
   -- it starts
-  pub running-start : (times by : List ℕ) → times ≡ replicate 1024 none → length times ≡ 1024 → length by ≡ 1024
-      → Running load release due longest f g order fails base n
-      record { order = order; fails = fails; times = times; by = by; base = base; at = base; count = 0; tries = 0; again = false }
+  pub running-start : {times by from until who : List ℕ} → times ≡ replicate 1024 none → length times ≡ 1024 → length by ≡ 1024
+      → length from ≡ 1024 → length until ≡ 1024 → length who ≡ 1024
+      → Running load release due f g order fails base n record {
+        order = order;
+        fails = fails;
+        times = times;
+        busy = busyOf by from until who 0 0;
+        base = base;
+        at = base;
+        tries = 0;
+        again = false;
+      }
   unfolding outcome passOver
-  running-start times by e times-long by-long = record {
+  running-start {times} e times-long by-long from-long until-long who-long = record {
     goes = λ ps ready carried count.
         let table : take (length ps) times ≡ replicate (length ps) none =
         ap (take (length ps)) e ∙ take-replicate (length ps) 1024 none (ready .held .few) in
@@ -52,21 +62,21 @@ module _ (load : Load) (release due : List ℕ) (longest f g : ℕ) (order fails
           carried = carried;
           on = refl;
           times-long = times-long;
-          by-long = by-long;
           low = omega arith;
           high = carried .within;
           few = omega arith;
           kept = record {
-            few = omega arith;
-            listed = λ j h. absurd (omega arith);
+            order = record { few = omega arith; listed = λ j h. absurd (omega arith); rising = λ i j h k. absurd (omega arith) };
+            by-long = by-long;
+            from-long = from-long;
+            until-long = until-long;
+            who-long = who-long;
+            flows = λ j h. absurd (omega arith);
+            filled = λ j h. absurd (omega arith);
             soon = λ j h. absurd (omega arith);
-            rising = λ i j h k. absurd (omega arith);
+            short = λ j h. absurd (omega arith);
           };
-          listed = record {
-            inside = λ j h. absurd (omega arith);
-            timed = λ j h. absurd (omega arith);
-            all = λ q h k. absurd (clear q k);
-          };
+          covers = record { within = λ q h k. absurd (clear q k); held = λ j c h. absurd (omega arith) };
           ahead = λ q h. absurd (clear q h);
           bounded = omega arith;
         };
@@ -76,24 +86,24 @@ module _ (load : Load) (release due : List ℕ) (longest f g : ℕ) (order fails
         (ap (take (length ps)) e ∙ take-replicate (length ps) 1024 none (ready .held .few));
   }
 
-  module _ (s : State) (run : Running load release due longest f g order fails base n s) (more : s .at < n) where
+  module _ {s : State} (run : Running load release due f g order fails base n s) (more : s .at < n) where
     -- and goes on after a step that does not break it off
-    pub running-on : (t : State)
-        → ((ps : List Packet) → Ready ps load release due longest f g → Going ps g s → s .at < length ps → Stepped ps f g s t)
-        → t .again ≡ false → Running load release due longest f g order fails base n t
-    running-on t stepped e = record {
+    pub running-on : {t : State}
+        → ((ps : List Packet) → Ready ps load release due f g → Going ps (load .lens) (load .links) g s → s .at < length ps → Stepped ps (load .lens) (load .links) f g s t)
+        → t .again ≡ false → Running load release due f g order fails base n t
+    running-on stepped e = record {
       goes = λ ps ready carried count. stepped ps ready (run .goes ps ready carried count) (omega arith) .goes e;
       same = λ ps ready carried count.
           stepped ps ready (run .goes ps ready carried count) (omega arith) .same ∙ run .same ps ready carried count;
     }
 
     -- a step that breaks it off
-    pub running-broken : (t : State)
-        → ((ps : List Packet) → Ready ps load release due longest f g → Going ps g s → s .at < length ps → Stepped ps f g s t)
-        → t .again ≡ true → (ps : List Packet) → Ready ps load release due longest f g → Carried ps g order fails base → n ≡ length ps
+    pub running-broken : {t : State}
+        → ((ps : List Packet) → Ready ps load release due f g → Going ps (load .lens) (load .links) g s → s .at < length ps → Stepped ps (load .lens) (load .links) f g s t)
+        → t .again ≡ true → (ps : List Packet) → Ready ps load release due f g → Carried ps g order fails base → n ≡ length ps
         → Ran ps f g order fails base (t .order) (t .fails) record { whole = false; base = t .base; tries = t .tries; times = t .times }
     unfolding outcome passedOf
-    running-broken t stepped e ps ready carried count =
+    running-broken {t} stepped e ps ready carried count =
         let d = stepped ps ready (run .goes ps ready carried count) (omega arith) in
         let is : outcome ps f g t
         ≡ record {
@@ -111,11 +121,11 @@ module _ (load : Load) (release due : List ℕ) (longest f g : ℕ) (order fails
         }
 
   -- it runs to the end of its list
-  pub running-whole : (s : State) → Running load release due longest f g order fails base n s → n ≤ s .at
-      → (ps : List Packet) → Ready ps load release due longest f g → Carried ps g order fails base → n ≡ length ps
+  pub running-whole : {s : State} → Running load release due f g order fails base n s → n ≤ s .at
+      → (ps : List Packet) → Ready ps load release due f g → Carried ps g order fails base → n ≡ length ps
       → Ran ps f g order fails base (s .order) (s .fails) record { whole = true; base = s .base; tries = s .tries; times = s .times }
   unfolding passFrom passedOf
-  running-whole s run h ps ready carried count =
+  running-whole {s} run h ps ready carried count =
       let going = run .goes ps ready carried count in
       let e : s .at ≡ length ps = omega (arith, going .high) in
       record {

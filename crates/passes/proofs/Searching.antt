@@ -9,7 +9,7 @@ use lib.ListN.{length, getD, take, replicate}
 use lib.Seq.{slice, length-slice, length-take-le, getD-take, getD-drop}
 use Rattle.basics.proofs.Each.{Each}
 use Rattle.packet.specs.Packet.{Packet}
-use Rattle.placing.specs.Kept.{Load}
+use Rattle.placing.specs.Held.{Load}
 use Rattle.placing.specs.Order.{sorted}
 use Rattle.passes.specs.Pass.{Pass, passOver}
 use Rattle.passes.specs.Passes.{passesFrom, ceiling, searchBy}
@@ -42,13 +42,13 @@ pub record Stands (key : ℕ → ℕ) (ps : List Packet) (f g : ℕ) (order fail
   pub bounded : tries ≤ passes * 34359738368
 
 -- for all packets that the arrays hold
-pub record Searching (key : ℕ → ℕ) (load : Load) (release due : List ℕ) (longest f g n : ℕ) (order fails : List ℕ) (base passes tries : ℕ) : Type 0 where
-  pub stands : (ps : List Packet) → Ready ps load release due longest f g → n ≡ length ps → Stands key ps f g order fails base passes tries
+pub record Searching (key : ℕ → ℕ) (load : Load) (release due : List ℕ) (f g n : ℕ) (order fails : List ℕ) (base passes tries : ℕ) : Type 0 where
+  pub stands : (ps : List Packet) → Ready ps load release due f g → n ≡ length ps → Stands key ps f g order fails base passes tries
 
-module _ {key : ℕ → ℕ} {load : Load} {release due : List ℕ} {longest f g n : ℕ} where
+module _ {key : ℕ → ℕ} {load : Load} {release due : List ℕ} {f g n : ℕ} where
   -- it starts
   pub searching-start : {order fails : List ℕ} → length order ≡ 1024 → fails ≡ replicate 1024 0 → take n order ≡ sorted key 0 n
-      → Searching key load release due longest f g n order fails 0 0 0
+      → Searching key load release due f g n order fails 0 0 0
   unfolding searchBy
   searching-start {order} {fails} long z e = record {
     stands = λ ps ready count.
@@ -66,8 +66,8 @@ module _ {key : ℕ → ℕ} {load : Load} {release due : List ℕ} {longest f g
         };
   }
 
-  module _ {order fails : List ℕ} {base passes tries : ℕ} (s : Searching key load release due longest f g n order fails base passes tries)
-      {ps : List Packet} (ready : Ready ps load release due longest f g) (count : n ≡ length ps) where
+  module _ {order fails : List ℕ} {base passes tries : ℕ} (s : Searching key load release due f g n order fails base passes tries)
+      {ps : List Packet} (ready : Ready ps load release due f g) (count : n ≡ length ps) where
     -- fewer passes were begun than there can be
     pub passes-few : passes ≤ length ps * (g - 1)
     passes-few = let t = s .stands ps ready count in omega (arith, t .used, spent-most (length ps) g (take (length ps) fails))

@@ -16,7 +16,7 @@ use Rattle.packet.specs.Packet.{Packet, mayStart, collide}
 use Rattle.packet.specs.Table.{packetAt, timeAt}
 use Rattle.packet.proofs.Packet.{start-at, collide-swap}
 use Rattle.placing.specs.Placing.{none, placed, inTheWay, free, timeOf, slotsOf, takenOf, placingOf}
-use Rattle.placing.proofs.OneMore.{placed-other}
+use Rattle.placing.proofs.Covering.{placed-other}
 use Rattle.placing.specs.declared.sweep.Placed.the-variants.{At}
 use Rattle.passes.proofs.PassSteps.{placing-at, time-latest}
 use Rattle.passes.proofs.Running.{nothing-placed}

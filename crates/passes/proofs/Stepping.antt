@@ -1,13 +1,13 @@
 -- One step of a pass as the code takes it: what it asks of placing, and what it leaves where the packet is placed.
 -- In order: the next packet; what is known of it; then the packet is placed. Where no time will do: proofs/Failing.antt.
-use mathlib.Core.Path.{_≡_, refl, sym, _∙_, ap, ap₂}
+use mathlib.Core.Path.{_≡_, refl, sym, _∙_, ap, ap₂, subst}
 use mathlib.Core.Bool.{true, false, false≢true}
 use mathlib.Core.List.{List, _∷_}
 use Prim.Native.Nat.{ℕ, _+_, _≤_, _<_}
 use native.Mathlib.Decide.{ℕ-discrete}
 use native.Mathlib.Omega.{arith}
 use lib.ListN.{length, getD, set, take, length-set}
-use lib.Seq.{slice, getD-take, getD-set-same, getD-set-other, take-set-lt}
+use lib.Seq.{slice, getD-take, length-take-le, take-set-lt}
 use Rattle.basics.proofs.Choose.{not-passing}
 use Rattle.time.specs.Hyper.{most}
 use Rattle.time.specs.Units.{latestOf}
@@ -16,15 +16,16 @@ use Rattle.packet.specs.Table.{packetAt}
 use Rattle.placing.specs.Placing.{placed, takenOf, placingOf}
 use Rattle.placing.specs.Order.{occurs}
 use Rattle.placing.specs.Lists.{shifted}
-use Rattle.placing.specs.Kept.{Load}
-use Rattle.placing.specs.Held.{Place, keptWith}
+use Rattle.placing.specs.Keep.{busyWith}
+use Rattle.placing.specs.Held.{Load, flowAt, Covers, Place}
 use Rattle.placing.proofs.Shifting.{shifted-length}
 use Rattle.placing.proofs.Ordering.{occurs-append, occurs-same}
-use Rattle.placing.proofs.OneMore.{kept-more, kept-length, placed-other, not-listed, listed-more}
+use Rattle.placing.proofs.Covering.{placed-other, Taking}
+use Rattle.placing.proofs.Growing.{kept-more, count-more, covers-more}
 use Rattle.placing.specs.declared.sweep.Placed.{Placed}
 use Rattle.placing.specs.declared.sweep.Placed.the-variants.{At}
 use Rattle.passes.specs.Pass.{raised, passFrom}
-use Rattle.passes.specs.State.{State, outcome, Ready, Carried, Going, Stepped}
+use Rattle.passes.specs.State.{State, outcome, spanAt, Ready, Going, Settles, Stepped}
 use Rattle.passes.proofs.Parts.{rest-next, taken-more, list-moved, list-without, taken-moved, rest-moved, list-occurs, each-moved}
 use Rattle.passes.proofs.PassSteps.{pass-placed, pass-broken, pass-skipped, Taken, placing-at, placing-nowhere, slots-few, time-latest}
 
@@ -40,8 +41,8 @@ outcome-on ps f g s e = rw (e, outcome) refl
 abbrev pub nextOf : State → ℕ
 nextOf s = getD (s .order) (s .at) 0
 
-module _ {ps : List Packet} {load : Load} {release due : List ℕ} {longest f g : ℕ} (ready : Ready ps load release due longest f g)
-    {s : State} (going : Going ps g s) (more : s .at < length ps) where
+module _ {ps : List Packet} {load : Load} {release due : List ℕ} {f g : ℕ} (ready : Ready ps load release due f g)
+    {s : State} (going : Going ps (load .lens) (load .links) g s) (more : s .at < length ps) where
   few : length ps ≤ 1024
   few = ready .held .few
 
@@ -53,7 +54,7 @@ module _ {ps : List Packet} {load : Load} {release due : List ℕ} {longest f g 
   next-in = going .carried .numbers (s .at) more
 
   -- what placing it asks
-  pub place-asks : Place load release due (s .by) (s .count) (s .times) longest f (nextOf s)
+  pub place-asks : Place load release due (s .busy) f (nextOf s)
   place-asks = record {
     loaded = ready .loaded;
     kept = going .kept;
@@ -63,7 +64,6 @@ module _ {ps : List Packet} {load : Load} {release due : List ℕ} {longest f g 
     soon = ready .soon (nextOf s) next-in;
     fits = ready .fits (nextOf s) next-in;
     due-soon = omega (arith, ready .ends (nextOf s) next-in);
-    longest-of = ready .longest-of;
   }
 
   -- it stands in the list once
@@ -140,20 +140,43 @@ module _ {ps : List Packet} {load : Load} {release due : List ℕ} {longest f g 
     pub tries-few : m ≤ 16777217
     tries-few = omega (arith, taken .tried, taken .one-of, slots-few f (packetAt ps (nextOf s)), latest-small)
 
-    room : s .count < 1024
-    room = omega (arith, going .few, few)
+    -- what keeping it asks
+    pub settles : Settles load (s .busy) (nextOf s) t
+    unfolding spanAt flowAt
+    settles =
+        let own : getD (load .flow) (nextOf s) 0 < 64 = ready .loaded .flows (nextOf s) (omega (arith, next-in, few)) in
+        record {
+          packet = omega (arith, next-in, few);
+          flow = own;
+          keeps = record {
+            kept = going .kept;
+            paths = ready .loaded .paths;
+            room = omega (arith, going .few, few);
+            flow = own;
+            lasting = omega (arith, ready .held .busy (nextOf s) next-in, ready .held .spans (nextOf s) next-in);
+            soon = omega (arith, time-soon, ready .loaded .spans (getD (load .flow) (nextOf s) 0) own);
+          };
+        }
 
-    new : (j : ℕ) → j < s .count → getD (s .by) j 0 ≡ (nextOf s) → ⊥
-    new = not-listed ps (s .by) (s .count) (s .times) (going .listed) (nextOf s) not-placed
+    -- it takes its time
+    takes : Taking ps (load .lens) (load .links) (take (length ps) (s .times)) (nextOf s) (flowAt load (nextOf s)) t (t + spanAt load (nextOf s))
+    unfolding spanAt
+    takes = record {
+      packet = next-in;
+      long = length-take-le (length ps) (s .times) (omega (arith, going .times-long, few));
+      fresh = not-placed;
+      soon = omega (arith, time-soon);
+      ends = omega (arith, ready .held .spans (nextOf s) next-in);
+      along = ready .held .paths (nextOf s) next-in;
+    }
 
-    pub after-placed : Stepped ps f g s record {
+    pub after-placed : Stepped ps (load .lens) (load .links) f g s record {
       order = s .order;
       fails = s .fails;
       times = set (s .times) (nextOf s) t;
-      by = keptWith (s .by) (s .count) (s .times) t (nextOf s);
+      busy = busyWith (load .lens) (load .links) (s .busy) (flowAt load (nextOf s)) t (t + spanAt load (nextOf s));
       base = s .base;
       at = s .at + 1;
-      count = s .count + 1;
       tries = s .tries + m;
       again = false;
     }
@@ -172,15 +195,13 @@ module _ {ps : List Packet} {load : Load} {release due : List ℕ} {longest f g 
         carried = going .carried;
         on = refl;
         times-long = length-set (s .times) (nextOf s) t ∙ going .times-long;
-        by-long =
-            kept-length (s .by) (s .count) (s .times) t (nextOf s) (going .kept) (going .by-long) (going .times-long) room (omega (arith, next-in, few)) time-soon new;
         low = omega (arith, going .low);
         high = omega arith;
-        few = omega (arith, going .few);
-        kept =
-            kept-more (s .by) (s .count) (s .times) t (nextOf s) (going .kept) (going .by-long) (going .times-long) room (omega (arith, next-in, few)) time-soon new;
-        listed =
-            listed-more ps (s .by) (s .count) (s .times) t (nextOf s) (going .kept) (going .by-long) (going .times-long) room few next-in time-soon (going .listed) not-placed;
+        few = omega (arith, going .few, count-more (settles .keeps));
+        kept = kept-more (settles .keeps);
+        covers =
+            subst (Covers ps (load .lens) (load .links) (busyWith (load .lens) (load .links) (s .busy) (flowAt load (nextOf s)) t (t + spanAt load (nextOf s))))
+            (sym (take-set-lt (length ps) (s .times) (nextOf s) t next-in)) (covers-more (settles .keeps) takes (going .covers));
         ahead = λ q h.
             elim (ℕ-discrete q (nextOf s)) [
               | yes a ↦ rw a (omega (arith, list-once))

@@ -9,28 +9,36 @@ use Rattle.time.specs.Hyper.{most}
 use Rattle.packet.specs.Packet.{Packet}
 use Rattle.placing.specs.Placing.{placed}
 use Rattle.placing.specs.Order.{occurs}
-use Rattle.placing.specs.Kept.{Load, Kept, Loaded}
-use Rattle.placing.specs.Held.{flowAt, Held, Listed}
+use Rattle.placing.specs.Busy.{Busy, busyOf, Kept}
+use Rattle.placing.specs.Keep.{Keep}
+use Rattle.placing.specs.Held.{Load, flowAt, Held, Loaded, Covers}
 use Rattle.passes.specs.Pass.{Pass, passFrom, passOver}
 use Rattle.passes.specs.declared.walk.Walk.{Walk}
 use Rattle.passes.specs.declared.walk.Passed.{Passed}
 
--- the list is `order` from base on; the packets before at are taken; count of them are placed, and `by` has them in order of start.
--- The skipped packets stand before base. A pass that is broken off is to begin again.
+-- the list is `order` from base on; the packets before at are taken; those placed hold the busy stretches. The skipped packets stand
+-- before base. A pass that is broken off is to begin again.
 pub record State : Type 0 where
   pub order : List ℕ
   pub fails : List ℕ
   pub times : List ℕ
-  pub by : List ℕ
+  pub busy : Busy
   pub base : ℕ
   pub at : ℕ
-  pub count : ℕ
   pub tries : ℕ
   pub again : Bool
 
-abbrev pub stateOf : List ℕ → List ℕ → List ℕ → List ℕ → Walk → State
-stateOf order fails times by w =
-    record { order = order; fails = fails; times = times; by = by; base = w .base; at = w .at; count = w .count; tries = w .tries; again = w .again }
+abbrev pub stateOf : List ℕ → List ℕ → List ℕ → List ℕ → List ℕ → List ℕ → List ℕ → Walk → State
+stateOf order fails times by from until who w = record {
+  order = order;
+  fails = fails;
+  times = times;
+  busy = busyOf by from until who (w .extent .count) (w .extent .longest);
+  base = w .base;
+  at = w .at;
+  tries = w .tries;
+  again = w .again;
+}
 
 -- what the pass leaves from here on: where it was broken off, that; else what the definition says
 unfoldable pub outcome : List Packet → ℕ → ℕ → State → Pass
@@ -49,7 +57,7 @@ outcome ps f g s = elim (s .again) [
 ]
 
 -- the arrays hold the packets, in time, and the settings are in their ranges
-pub record Ready (ps : List Packet) (load : Load) (release due : List ℕ) (longest f g : ℕ) : Type 0 where
+pub record Ready (ps : List Packet) (load : Load) (release due : List ℕ) (f g : ℕ) : Type 0 where
   pub held : Held ps load release due
   pub loaded : Loaded load
   pub some-step : 0 < f
@@ -59,7 +67,6 @@ pub record Ready (ps : List Packet) (load : Load) (release due : List ℕ) (long
   pub soon : (p : ℕ) → p < length ps → getD release p 0 ≤ most
   pub fits : (p : ℕ) → p < length ps → getD (load .occupancy) (flowAt load p) 0 ≤ getD due (flowAt load p) 0
   pub ends : (p : ℕ) → p < length ps → getD release p 0 + getD due (flowAt load p) 0 ≤ most
-  pub longest-of : (q : ℕ) → q < 64 → getD (load .occupancy) q 0 ≤ longest
 
 -- what is carried over the passes: the list holds packets, each at most once, with fail counts below G
 pub record Carried (ps : List Packet) (g : ℕ) (order fails : List ℕ) (base : ℕ) : Type 0 where
@@ -70,27 +77,28 @@ pub record Carried (ps : List Packet) (g : ℕ) (order fails : List ℕ) (base :
   pub once : (q : ℕ) → occurs q (slice base (length ps) order) ≤ 1
   pub below : (q : ℕ) → 0 < occurs q (slice base (length ps) order) → getD fails q 0 < g
 
--- where a pass stands that goes on: its placed packets are kept in order, and no packet still to be taken is placed
-pub record Going (ps : List Packet) (g : ℕ) (s : State) : Type 0 where
+-- where a pass stands that goes on: the stretches are kept, and are what the placed packets hold; no packet still to be taken is placed
+pub record Going (ps : List Packet) (lens links : List ℕ) (g : ℕ) (s : State) : Type 0 where
   pub carried : Carried ps g (s .order) (s .fails) (s .base)
   pub on : s .again ≡ false
   pub times-long : length (s .times) ≡ 1024
-  pub by-long : length (s .by) ≡ 1024
   pub low : s .base ≤ s .at
   pub high : s .at ≤ length ps
-  pub few : s .count ≤ s .at
-  pub kept : Kept (s .by) (s .count) (s .times)
-  pub listed : Listed ps (s .by) (s .count) (s .times)
+  pub few : s .busy .count ≤ s .at
+  pub kept : Kept (s .busy)
+  pub covers : Covers ps lens links (s .busy) (take (length ps) (s .times))
   pub ahead : (q : ℕ) → placed (take (length ps) (s .times)) q ≡ true → occurs q (slice (s .at) (length ps) (s .order)) ≡ 0
   pub bounded : s .tries ≤ s .at * 33554432
 
--- what a packet's taking a time asks: room among the placed packets, and a place in the table
-pub record Settles (by : List ℕ) (count : ℕ) (times : List ℕ) (packet : ℕ) : Type 0 where
-  pub kept : Kept by count times
-  pub by-long : length by ≡ 1024
-  pub times-long : length times ≡ 1024
-  pub room : count < 1024
-  pub within : packet < 1024
+-- the occupancy of packet p
+unfoldable pub spanAt : Load → ℕ → ℕ
+spanAt load p = getD (load .occupancy) (flowAt load p) 0
+
+-- what a packet's taking a time asks: a packet of a flow, and room among the stretches up to its end
+pub record Settles (load : Load) (b : Busy) (p time : ℕ) : Type 0 where
+  pub packet : p < 1024
+  pub flow : flowAt load p < 64
+  pub keeps : Keep (load .lens) (load .links) b (flowAt load p) time (time + spanAt load p)
 
 -- what a fail count's rising asks: that it is at most 16
 pub record Raises (fails : List ℕ) (p : ℕ) : Type 0 where
@@ -99,19 +107,19 @@ pub record Raises (fails : List ℕ) (p : ℕ) : Type 0 where
   pub low : getD fails p 0 ≤ 16
 
 -- what a step asks: some packets that the arrays hold, a pass that goes on, and a packet to be taken
-pub record Steps (load : Load) (release due : List ℕ) (longest f g : ℕ) (s : State) : Type 0 where
+pub record Steps (load : Load) (release due : List ℕ) (f g : ℕ) (s : State) : Type 0 where
   pub ps : List Packet
-  pub ready : Ready ps load release due longest f g
-  pub going : Going ps g s
+  pub ready : Ready ps load release due f g
+  pub going : Going ps (load .lens) (load .links) g s
   pub more : s .at < length ps
 
 -- what a step does: the pass leaves the same; where it goes on, it has taken one packet
-pub record Stepped (ps : List Packet) (f g : ℕ) (s t : State) : Type 0 where
+pub record Stepped (ps : List Packet) (lens links : List ℕ) (f g : ℕ) (s t : State) : Type 0 where
   pub same : outcome ps f g t ≡ outcome ps f g s
   pub carried : Carried ps g (t .order) (t .fails) (t .base)
   pub times-long : length (t .times) ≡ 1024
   pub bounded : t .tries ≤ 1024 * 33554432
-  pub goes : t .again ≡ false → Going ps g t
+  pub goes : t .again ≡ false → Going ps lens links g t
   pub taken : t .again ≡ false → t .at ≡ s .at + 1
 
 -- ---- a whole pass
@@ -122,9 +130,9 @@ passedOf n order fails r =
     record { whole = r .whole; list = slice (r .base) n order; fails = take n fails; table = take n (r .times); tries = r .tries }
 
 -- what a pass asks: some packets that the arrays hold, and what is carried over
-pub record Runs (load : Load) (release due : List ℕ) (longest f g : ℕ) (order fails : List ℕ) (base n : ℕ) : Type 0 where
+pub record Runs (load : Load) (release due : List ℕ) (f g : ℕ) (order fails : List ℕ) (base n : ℕ) : Type 0 where
   pub ps : List Packet
-  pub ready : Ready ps load release due longest f g
+  pub ready : Ready ps load release due f g
   pub carried : Carried ps g order fails base
   pub count : n ≡ length ps
 

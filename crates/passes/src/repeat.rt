@@ -6,7 +6,7 @@ ghost use mathlib.Core.List.{List};
 ghost use lib.ListN.{length};
 ghost use Rattle.packet.specs.Packet.{Packet};
 ghost use Rattle.placing.specs.Lists.{keyIn};
-ghost use Rattle.placing.specs.Kept.{loadOf};
+ghost use Rattle.placing.specs.Held.{loadOf};
 ghost use Rattle.passes.specs.State.{Ready};
 ghost use Rattle.passes.specs.Search.{Searches, Searched};
 
@@ -28,12 +28,11 @@ pub fn rounds(
     links: &[u16; 2048],
     release: &[u32; 1024],
     due: &[u32; 64],
-    longest: u32,
     pruning: u32,
     threshold: u32,
 ) -> Outcome
-    requires { ⌜ Searches (now key) (loadOf (now flow) (now occupancy) (now lens) (now links)) (now release) (now due) longest pruning threshold n ⌝ }
-    ensures { λ r. ⌜ ((ps : List Packet) → Ready ps (loadOf (now (flow .entry)) (now (occupancy .entry)) (now (lens .entry)) (now (links .entry))) (now (release .entry)) (now (due .entry)) longest pruning threshold → n ≡ length ps → Searched ps (keyIn (now (key .entry))) pruning threshold r) ⌝ }
+    requires { ⌜ Searches (now key) (loadOf (now flow) (now occupancy) (now lens) (now links)) (now release) (now due) pruning threshold n ⌝ }
+    ensures { λ r. ⌜ ((ps : List Packet) → Ready ps (loadOf (now (flow .entry)) (now (occupancy .entry)) (now (lens .entry)) (now (links .entry))) (now (release .entry)) (now (due .entry)) pruning threshold → n ≡ length ps → Searched ps (keyIn (now (key .entry))) pruning threshold r) ⌝ }
 {
     let mut order = in_order(key, n);
     let mut fails = [0u8; 1024];
@@ -52,7 +51,6 @@ pub fn rounds(
             links,
             release,
             due,
-            longest,
             pruning,
             threshold,
         );

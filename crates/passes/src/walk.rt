@@ -1,36 +1,52 @@
 // One pass: the packets are taken in list order, each placed, moved to the front, or skipped.
+use placing::Extent;
 use placing::Placed;
 use placing::keep;
 use placing::place;
 use placing::put_in;
 ghost use mathlib.Core.Path.{_≡_};
 ghost use mathlib.Core.List.{List};
-ghost use Prim.Native.Nat.{_<_};
+ghost use Prim.Native.Nat.{_+_, _<_};
 ghost use lib.ListN.{length, set};
 ghost use Rattle.packet.specs.Packet.{Packet};
-ghost use Rattle.placing.specs.Kept.{loadOf};
-ghost use Rattle.placing.specs.Held.{keptWith};
+ghost use Rattle.placing.specs.Busy.{busyOf};
+ghost use Rattle.placing.specs.Keep.{busyWith};
+ghost use Rattle.placing.specs.Held.{loadOf, flowAt};
 ghost use Rattle.passes.specs.Pass.{raised};
-ghost use Rattle.passes.specs.State.{stateOf, Ready, Carried, Going, Settles, Raises, Steps, Stepped, Runs, Ran};
+ghost use Rattle.passes.specs.State.{stateOf, spanAt, Ready, Carried, Going, Settles, Raises, Steps, Stepped, Runs, Ran};
 
-// Where a pass stands: the list is the order from base on, the packets before at are taken, count of them are placed.
-// Again: the pass was broken off, and a new one begins.
+// Where a pass stands: the list is the order from base on, the packets before at are taken, and those placed hold stretches of such an
+// extent. Again: the pass was broken off, and a new one begins.
 pub struct Walk {
     pub base: usize,
     pub at: usize,
-    pub count: usize,
+    pub extent: Extent,
     pub tries: u64,
     pub again: bool,
 }
 
-// Packet p takes a time: it goes among the placed packets, and into its place of the table.
-fn settle(times: &mut [u32; 1024], by: &mut [u16; 1024], count: usize, packet: u16, time: u32)
-    requires { ⌜ Settles (now by) count (now times) packet ⌝ }
-    ensures { λ _. ⌜ (now (times .exit) ≡ set (now (times .entry)) packet time) × (now (by .exit) ≡ keptWith (now (by .entry)) count (now (times .entry)) time packet) ⌝ }
+// Packet p takes a time: it goes into its place of the table, and among the stretches, up to its end.
+fn settle(
+    times: &mut [u32; 1024],
+    by: &mut [u16; 1024],
+    from: &mut [u32; 1024],
+    until: &mut [u32; 1024],
+    who: &mut [u16; 1024],
+    extent: Extent,
+    flow: &[u16; 1024],
+    occupancy: &[u32; 64],
+    lens: &[usize; 64],
+    links: &[u16; 2048],
+    p: usize,
+    time: u32,
+) -> Extent
+    requires { ⌜ Settles (loadOf (now flow) (now occupancy) (now lens) (now links)) (busyOf (now by) (now from) (now until) (now who) (extent .count) (extent .longest)) p time ⌝ }
+    ensures { λ r. ⌜ (now (times .exit) ≡ set (now (times .entry)) p time) × (busyOf (now (by .exit)) (now (from .exit)) (now (until .exit)) (now (who .exit)) (r .count) (r .longest) ≡ busyWith (now (lens .entry)) (now (links .entry)) (busyOf (now (by .entry)) (now (from .entry)) (now (until .entry)) (now (who .entry)) (extent .count) (extent .longest)) (flowAt (loadOf (now (flow .entry)) (now (occupancy .entry)) (now (lens .entry)) (now (links .entry))) p) time (time + spanAt (loadOf (now (flow .entry)) (now (occupancy .entry)) (now (lens .entry)) (now (links .entry))) p)) ⌝ }
 {
-    keep(by, count, times, time, packet);
-    let p = packet as usize;
+    let own = flow[p];
+    let end = time + occupancy[own as usize];
     times[p] = time;
+    keep(by, from, until, who, extent, lens, links, own, time, end)
 }
 
 // The fail count of packet p rises by one.
@@ -51,45 +67,61 @@ fn step(
     fails: &mut [u8; 1024],
     times: &mut [u32; 1024],
     by: &mut [u16; 1024],
+    from: &mut [u32; 1024],
+    until: &mut [u32; 1024],
+    who: &mut [u16; 1024],
     flow: &[u16; 1024],
     occupancy: &[u32; 64],
     lens: &[usize; 64],
     links: &[u16; 2048],
     release: &[u32; 1024],
     due: &[u32; 64],
-    longest: u32,
     pruning: u32,
     threshold: u32,
 ) -> Walk
-    requires { ⌜ Steps (loadOf (now flow) (now occupancy) (now lens) (now links)) (now release) (now due) longest pruning threshold (stateOf (now order) (now fails) (now times) (now by) w) ⌝ }
-    ensures { λ r. ⌜ ((ps : List Packet) → Ready ps (loadOf (now (flow .entry)) (now (occupancy .entry)) (now (lens .entry)) (now (links .entry))) (now (release .entry)) (now (due .entry)) longest pruning threshold → Going ps threshold (stateOf (now (order .entry)) (now (fails .entry)) (now (times .entry)) (now (by .entry)) w) → w .at < length ps → Stepped ps pruning threshold (stateOf (now (order .entry)) (now (fails .entry)) (now (times .entry)) (now (by .entry)) w) (stateOf (now (order .exit)) (now (fails .exit)) (now (times .exit)) (now (by .exit)) r)) ⌝ }
+    requires { ⌜ Steps (loadOf (now flow) (now occupancy) (now lens) (now links)) (now release) (now due) pruning threshold (stateOf (now order) (now fails) (now times) (now by) (now from) (now until) (now who) w) ⌝ }
+    ensures { λ r. ⌜ ((ps : List Packet) → Ready ps (loadOf (now (flow .entry)) (now (occupancy .entry)) (now (lens .entry)) (now (links .entry))) (now (release .entry)) (now (due .entry)) pruning threshold → Going ps (now (lens .entry)) (now (links .entry)) threshold (stateOf (now (order .entry)) (now (fails .entry)) (now (times .entry)) (now (by .entry)) (now (from .entry)) (now (until .entry)) (now (who .entry)) w) → w .at < length ps → Stepped ps (now (lens .entry)) (now (links .entry)) pruning threshold (stateOf (now (order .entry)) (now (fails .entry)) (now (times .entry)) (now (by .entry)) (now (from .entry)) (now (until .entry)) (now (who .entry)) w) (stateOf (now (order .exit)) (now (fails .exit)) (now (times .exit)) (now (by .exit)) (now (from .exit)) (now (until .exit)) (now (who .exit)) r)) ⌝ }
 {
     let base = w.base;
     let at = w.at;
-    let count = w.count;
+    let extent = w.extent;
     let packet = order[at];
     let p = packet as usize;
     let placed = place(
         by,
-        count,
-        times,
+        from,
+        until,
+        who,
+        extent,
         flow,
         occupancy,
         lens,
         links,
         release,
         due,
-        longest,
         pruning,
         p,
     );
     match placed {
         Placed::At { time, tries } => {
-            settle(times, by, count, packet, time);
+            let extent = settle(
+                times,
+                by,
+                from,
+                until,
+                who,
+                extent,
+                flow,
+                occupancy,
+                lens,
+                links,
+                p,
+                time,
+            );
             Walk {
                 base,
                 at: at + 1,
-                count: count + 1,
+                extent,
                 tries: w.tries + tries as u64,
                 again: false,
             }
@@ -101,7 +133,7 @@ fn step(
                 return Walk {
                     base,
                     at,
-                    count,
+                    extent,
                     tries: w.tries + tries as u64,
                     again: true,
                 };
@@ -109,7 +141,7 @@ fn step(
             Walk {
                 base: base + 1,
                 at: at + 1,
-                count,
+                extent,
                 tries: w.tries + tries as u64,
                 again: false,
             }
@@ -141,19 +173,25 @@ pub fn pass(
     links: &[u16; 2048],
     release: &[u32; 1024],
     due: &[u32; 64],
-    longest: u32,
     pruning: u32,
     threshold: u32,
 ) -> Passed
-    requires { ⌜ Runs (loadOf (now flow) (now occupancy) (now lens) (now links)) (now release) (now due) longest pruning threshold (now order) (now fails) base n ⌝ }
-    ensures { λ r. ⌜ ((ps : List Packet) → Ready ps (loadOf (now (flow .entry)) (now (occupancy .entry)) (now (lens .entry)) (now (links .entry))) (now (release .entry)) (now (due .entry)) longest pruning threshold → Carried ps threshold (now (order .entry)) (now (fails .entry)) base → n ≡ length ps → Ran ps pruning threshold (now (order .entry)) (now (fails .entry)) base (now (order .exit)) (now (fails .exit)) r) ⌝ }
+    requires { ⌜ Runs (loadOf (now flow) (now occupancy) (now lens) (now links)) (now release) (now due) pruning threshold (now order) (now fails) base n ⌝ }
+    ensures { λ r. ⌜ ((ps : List Packet) → Ready ps (loadOf (now (flow .entry)) (now (occupancy .entry)) (now (lens .entry)) (now (links .entry))) (now (release .entry)) (now (due .entry)) pruning threshold → Carried ps threshold (now (order .entry)) (now (fails .entry)) base → n ≡ length ps → Ran ps pruning threshold (now (order .entry)) (now (fails .entry)) base (now (order .exit)) (now (fails .exit)) r) ⌝ }
 {
     let mut times = [NONE; 1024];
     let mut by = [0u16; 1024];
+    let mut from = [0u32; 1024];
+    let mut until = [0u32; 1024];
+    let mut who = [0u16; 1024];
+    let extent = Extent {
+        count: 0,
+        longest: 0,
+    };
     let mut w = Walk {
         base,
         at: base,
-        count: 0,
+        extent,
         tries: 0,
         again: false,
     };
@@ -164,13 +202,15 @@ pub fn pass(
             fails,
             &mut times,
             &mut by,
+            &mut from,
+            &mut until,
+            &mut who,
             flow,
             occupancy,
             lens,
             links,
             release,
             due,
-            longest,
             pruning,
             threshold,
         );

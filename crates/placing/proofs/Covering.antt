@@ -22,11 +22,11 @@ use Rattle.placing.specs.Held.{Within, Holder}
 -- neither of two lengths is longer than the longer
 pub longer-first : (a b : ℕ) → a ≤ longer a b
 unfolding longer
-longer-first a b = elim (decLe a b) [ | yes h ↦ rw (le-leb a b h) h | no h ↦ rw (lt-leb a b (lt-of-not-le h)) (omega arith) ]
+longer-first a b = elim (decLe a b) [ yes h ↦ rw (le-leb a b h) h | no h ↦ rw (lt-leb a b (lt-of-not-le h)) (omega arith) ]
 
 pub longer-second : (a b : ℕ) → b ≤ longer a b
 unfolding longer
-longer-second a b = elim (decLe a b) [ | yes h ↦ rw (le-leb a b h) (omega arith) | no h ↦ rw (lt-leb a b (lt-of-not-le h)) (omega (arith, lt-of-not-le h)) ]
+longer-second a b = elim (decLe a b) [ yes h ↦ rw (le-leb a b h) (omega arith) | no h ↦ rw (lt-leb a b (lt-of-not-le h)) (omega (arith, lt-of-not-le h)) ]
 
 -- ---- a table with one more time
 

@@ -83,9 +83,12 @@ module _ {lens links : List ℕ} {b : Busy} {g time end : ℕ} (asks : Keep lens
         inside q h e =
             elim (ℕ-discrete q p) [
               | yes same ↦
-                  let last = before-in asks is f in
-                  (at - 1, last, subst (λ (n : ℕ). Within ps lens links (lengthened b at end) (set table p time) n (at - 1)) (sym same)
-                  (within-new taking (follows-path asks is f) (omega (arith, follows-starts asks is f)) (omega (arith, grown-last))))
+                  let last = before-in asks is f in (
+                    at - 1,
+                    last,
+                    subst (λ (n : ℕ). Within ps lens links (lengthened b at end) (set table p time) n (at - 1)) (sym same)
+                        (within-new taking (follows-path asks is f) (omega (arith, follows-starts asks is f)) (omega (arith, grown-last))),
+                  )
               | no ne ↦
                   let was = sym (placed-other table p time q ne) ∙ e in
                   let w = covers .within q h was in

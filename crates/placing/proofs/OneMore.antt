@@ -192,15 +192,21 @@ module _ {lens links : List ℕ} {b : Busy} {g time end : ℕ} (asks : Keep lens
               | yes same ↦
                   let s = entry-new (b .from) time at (asks .kept .from-long) put in
                   let u = entry-new (b .until) end at (asks .kept .until-long) put in
-                  let w = entry-new (b .who) g at (asks .kept .who-long) put in
-                  (at, omega (arith, within), subst (λ (n : ℕ). Within ps lens links more (set table p time) n at) (sym same)
-                  (within-new taking (ap (pathIn lens links) (sym w)) (omega (arith, s)) (omega (arith, u))))
+                  let w = entry-new (b .who) g at (asks .kept .who-long) put in (
+                    at,
+                    omega (arith, within),
+                    subst (λ (n : ℕ). Within ps lens links more (set table p time) n at) (sym same)
+                        (within-new taking (ap (pathIn lens links) (sym w)) (omega (arith, s)) (omega (arith, u))),
+                  )
               | no ne ↦
                   let was = sym (placed-other table p time q ne) ∙ e in
                   let w = covers .within q h was in
-                  let m = moved (w .0) (w .1) in
-                  (m .0, m .1, within-on taking was (w .2) (omega (arith, entry-other (b .from) time (m .0) (w .0) (w .1) (m .2)))
-                  (omega (arith, entry-other (b .until) end (m .0) (w .0) (w .1) (m .2))) (entry-other (b .who) g (m .0) (w .0) (w .1) (m .2)))
+                  let m = moved (w .0) (w .1) in (
+                    m .0,
+                    m .1,
+                    within-on taking was (w .2) (omega (arith, entry-other (b .from) time (m .0) (w .0) (w .1) (m .2)))
+                        (omega (arith, entry-other (b .until) end (m .0) (w .0) (w .1) (m .2))) (entry-other (b .who) g (m .0) (w .0) (w .1) (m .2)),
+                  )
             ]
 
         holds : (j c : ℕ) → startOf more j ≤ c → c < endOf more j → Which j → Holder ps lens links more (set table p time) j c

@@ -25,8 +25,8 @@ use Rattle.model.proofs.Numbering.{packets-length}
 use Rattle.model.proofs.InTime.{InTime, turns-low, fair-timed, packet-in-time, packets-in-time}
 use Rattle.model.proofs.Entries.{occupancy-entry, path-entry, flow-entry}
 use Rattle.model.proofs.Reading.{model-count, packet-in}
-use Rattle.placing.specs.Kept.{loadOf, pathIn}
-use Rattle.placing.specs.Held.{flowAt, Held}
+use Rattle.placing.specs.Busy.{pathIn}
+use Rattle.placing.specs.Held.{loadOf, flowAt, Held}
 use Rattle.passes.specs.State.{Ready}
 use Rattle.search.specs.Spread.{Spread, Lens, Modelled}
 
@@ -102,6 +102,7 @@ module _ (mesh : Mesh) (numbers : List ℕ) (fair : Fair mesh numbers) where
         few = omega (arith, packets-length mesh numbers, fair .packets-high);
         count = model-count mesh numbers fair ∙ sym (packets-length mesh numbers);
         read = λ p h. sym (packet-in mesh numbers fair p (below p h));
+        busy = λ p h. packets-in-time mesh numbers fair p (below p h) .busy;
         fits = λ p h. packets-in-time mesh numbers fair p (below p h) .fits;
         ends = λ p h. packets-in-time mesh numbers fair p (below p h) .deadline-small;
         flows = flow-small;
@@ -140,9 +141,8 @@ module _ (paths : List Path) (links lens : List ℕ) (spread : Spread paths link
       ∙ ap (λ (m : ℕ). take m (drop (q * 32) links)) (sym n)
 
 -- what the passes ask
-module _ {ps : List Packet} {model : Model} {f g : ℕ} (m : Modelled ps model f g) {links lens : List ℕ} {longest : ℕ}
-    (spread : Spread (model .flows .path) links) (measured : Lens (model .flows .path) lens)
-    (above : (q : ℕ) → q < 64 → getD (model .flows .occupancy) q 0 ≤ longest) where
+module _ {ps : List Packet} {model : Model} {f g : ℕ} (m : Modelled ps model f g) {links lens : List ℕ}
+    (spread : Spread (model .flows .path) links) (measured : Lens (model .flows .path) lens) where
   -- the arrays hold the packets
   held : Held ps (loadOf (model .packets .flow) (model .flows .occupancy) lens links) (model .packets .release) (model .flows .due)
   unfolding packetIn flowAt
@@ -155,16 +155,16 @@ module _ {ps : List Packet} {model : Model} {f g : ℕ} (m : Modelled ps model f
         let q = m .flows p (omega (arith, m .few)) in
         ap (λ (r : Packet). r .path) (m .read p h)
         ∙ spread-path (model .flows .path) links lens spread measured (getD (model .packets .flow) p 0) q (m .whole _ q) (m .short _ q);
+    busy = m .busy;
   }
 
-  pub modelled-ready : Ready ps (loadOf (model .packets .flow) (model .flows .occupancy) lens links) (model .packets .release) (model .flows .due) longest f g
+  pub modelled-ready : Ready ps (loadOf (model .packets .flow) (model .flows .occupancy) lens links) (model .packets .release) (model .flows .due) f g
   modelled-ready = record {
     held = held;
     loaded = record {
       flows = m .flows;
-      short = λ q h. omega (arith, measured .lens-at q h, m .short q h);
       spans = m .spans;
-      long = spread .long;
+      paths = record { short = λ q h. omega (arith, measured .lens-at q h, m .short q h); long = spread .long };
     };
     some-step = m .some-step;
     small-step = m .small-step;
@@ -173,5 +173,4 @@ module _ {ps : List Packet} {model : Model} {f g : ℕ} (m : Modelled ps model f
     soon = λ p h. omega (arith, held .releases p h, m .fits p h, m .ends p h);
     fits = λ p h. omega (arith, held .releases p h, held .deadlines p h, held .spans p h, m .fits p h);
     ends = λ p h. omega (arith, held .deadlines p h, m .ends p h);
-    longest-of = above;
   }

@@ -24,6 +24,7 @@ pub record Modelled (ps : List Packet) (model : Model) (f g : ℕ) : Type 0 wher
   pub few : length ps ≤ 1024
   pub count : model .packets .count ≡ length ps
   pub read : (p : ℕ) → p < length ps → packetAt ps p ≡ packetIn (model .flows) (model .packets) p
+  pub busy : (p : ℕ) → p < length ps → 0 < packetAt ps p .occupancy
   pub fits : (p : ℕ) → p < length ps → packetAt ps p .release + packetAt ps p .occupancy ≤ packetAt ps p .deadline
   pub ends : (p : ℕ) → p < length ps → packetAt ps p .deadline ≤ most
   pub flows : (q : ℕ) → q < 1024 → getD (model .packets .flow) q 0 < 64

@@ -6,7 +6,7 @@ use passes::Outcome;
 use passes::rounds;
 ghost use mathlib.Core.Path.{_≡_};
 ghost use mathlib.Core.List.{List};
-ghost use Prim.Native.Nat.{ℕ, _≤_, _<_, _*_};
+ghost use Prim.Native.Nat.{ℕ, _<_, _*_};
 ghost use lib.ListN.{length, getD};
 ghost use lib.Seq.{paste};
 ghost use Rattle.packet.specs.Packet.{Packet};
@@ -53,20 +53,6 @@ fn lens_of(paths: [Path; 64]) -> [usize; 64]
     lens
 }
 
-// An occupancy that none is longer than.
-fn longest_of(occupancy: &[u32; 64]) -> u32
-    ensures { λ r. ⌜ ((g : ℕ) → g < 64 → getD (now (occupancy .entry)) g 0 ≤ r) ⌝ }
-{
-    let mut longest: u32 = 0;
-    for g in 0..64usize {
-        let span = occupancy[g];
-        if longest < span {
-            longest = span;
-        }
-    }
-    longest
-}
-
 // The passes over a model that is not refused.
 pub fn run(model: Model, pruning: u32, threshold: u32) -> Outcome
     requires { ⌜ ((ps : List Packet) × Modelled ps model pruning threshold) ⌝ }
@@ -81,7 +67,6 @@ pub fn run(model: Model, pruning: u32, threshold: u32) -> Outcome
     let due = model.flows.due;
     let flow = model.packets.flow;
     let release = model.packets.release;
-    let longest = longest_of(&occupancy);
     rounds(
         &key,
         n,
@@ -91,7 +76,6 @@ pub fn run(model: Model, pruning: u32, threshold: u32) -> Outcome
         &links,
         &release,
         &due,
-        longest,
         pruning,
         threshold,
     )

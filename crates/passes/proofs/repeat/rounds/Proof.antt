@@ -4,17 +4,17 @@ use native.Mathlib.Omega.{arith}
 use Prim.Native.Nat.{ℕ, _+_, _-_, _*_}
 use lib.ListN.{length}
 use Rattle.placing.specs.Lists.{keyIn}
-use Rattle.placing.specs.Kept.{loadOf}
+use Rattle.placing.specs.Held.{loadOf}
 use Rattle.passes.proofs.Searching.{Searching, searching-start, passes-few, passes-least, stands-on, stands-end}
 use borrow.Author.Needs.{needs}
 use Rattle.passes.proofs.repeat.rounds.Statement.{statement}
 use Rattle.passes.proofs.repeat.rounds.Tie as tie
 
 abbrev Inv-loop : tie.InvT-loop
-Inv-loop key n flow occupancy lens links release due longest pruning threshold order₀ fails₀ base₀ passes₀ tries₀ order fails base passes tries = Searching (keyIn key) (loadOf flow occupancy lens links) release due longest pruning threshold n order fails base passes tries
+Inv-loop key n flow occupancy lens links release due pruning threshold order₀ fails₀ base₀ passes₀ tries₀ order fails base passes tries = Searching (keyIn key) (loadOf flow occupancy lens links) release due pruning threshold n order fails base passes tries
 
 abbrev μ-loop : tie.MeasureT-loop
-μ-loop key n flow occupancy lens links release due longest pruning threshold order₀ fails₀ base₀ passes₀ tries₀ order fails base passes tries = n * (threshold - 1) + 1 - passes
+μ-loop key n flow occupancy lens links release due pruning threshold order₀ fails₀ base₀ passes₀ tries₀ order fails base passes tries = n * (threshold - 1) + 1 - passes
 
 in-order-requires : tie.Need-in-order-requires Inv-loop μ-loop
 in-order-requires c κs = (c .pre .keys, omega (arith, c .pre .count, c .pre .ready .held .few))

@@ -2,7 +2,7 @@
 use native.Mathlib.Omega.{arith}
 use mathlib.Core.Path.{refl}
 use Prim.Native.Nat.{_-_}
-use Rattle.placing.specs.Kept.{loadOf}
+use Rattle.placing.specs.Held.{loadOf}
 use Rattle.passes.specs.State.{stateOf}
 use Rattle.passes.proofs.Running.{Running, running-start, running-on, running-broken, running-whole}
 use borrow.Author.Needs.{needs}
@@ -10,30 +10,30 @@ use Rattle.passes.proofs.walk.pass.Statement.{statement}
 use Rattle.passes.proofs.walk.pass.Tie as tie
 
 abbrev Inv-loop : tie.InvT-loop
-Inv-loop order₀ fails₀ base n flow occupancy lens links release due longest pruning threshold times₀ by₀ w₀ order fails times by w = Running (loadOf flow occupancy lens links) release due longest pruning threshold order₀ fails₀ base n (stateOf order fails times by w)
+Inv-loop order₀ fails₀ base n flow occupancy lens links release due pruning threshold times₀ by₀ from₀ until₀ who₀ w₀ order fails times by from until who w = Running (loadOf flow occupancy lens links) release due pruning threshold order₀ fails₀ base n (stateOf order fails times by from until who w)
 
 abbrev μ-loop : tie.MeasureT-loop
-μ-loop order₀ fails₀ base n flow occupancy lens links release due longest pruning threshold times₀ by₀ w₀ order fails times by w = n - w .at
+μ-loop order₀ fails₀ base n flow occupancy lens links release due pruning threshold times₀ by₀ from₀ until₀ who₀ w₀ order fails times by from until who w = n - w .at
 
 loop-holds : tie.Need-loop-holds Inv-loop μ-loop
-loop-holds c = running-start (loadOf (c .args .flow .now) (c .args .occupancy .now) (c .args .lens .now) (c .args .links .now)) (c .args .release .now) (c .args .due .now) (c .args .longest) (c .args .pruning) (c .args .threshold) (c .args .order .now) (c .args .fails .now) (c .args .base) (c .args .n) _ _ refl (search needs) (search needs)
+loop-holds c = running-start refl (search needs) (search needs) (search needs) (search needs) (search needs)
 
 step-requires : tie.Need-step-requires Inv-loop μ-loop
-step-requires c κs = record { ps = c .before .before .before .before .before .before .before .pre .ps; ready = c .before .before .before .before .before .before .before .pre .ready; going = c .before .before .before .before .before .before .loop .inv .goes (c .before .before .before .before .before .before .before .pre .ps) (c .before .before .before .before .before .before .before .pre .ready) (c .before .before .before .before .before .before .before .pre .carried) (c .before .before .before .before .before .before .before .pre .count); more = omega (arith, c .before .before .before .before .if1 .taken, c .before .before .before .before .before .before .before .pre .count) }
+step-requires c κs = record { ps = c .before .before .before .before .before .before .before .before .before .before .pre .ps; ready = c .before .before .before .before .before .before .before .before .before .before .pre .ready; going = (c .before .before .before .before .before .before .before .before .before .loop .inv .goes (c .before .before .before .before .before .before .before .before .before .before .pre .ps) (c .before .before .before .before .before .before .before .before .before .before .pre .ready) (c .before .before .before .before .before .before .before .before .before .before .pre .carried) (c .before .before .before .before .before .before .before .before .before .before .pre .count)); more = omega (arith, c .before .before .before .before .before .before .before .if1 .taken, c .before .before .before .before .before .before .before .before .before .before .pre .count) }
 
 returns : tie.Need-returns Inv-loop μ-loop
-returns c = running-broken (loadOf (c .before .before .before .before .before .before .before .before .before .args .flow .now) (c .before .before .before .before .before .before .before .before .before .args .occupancy .now) (c .before .before .before .before .before .before .before .before .before .args .lens .now) (c .before .before .before .before .before .before .before .before .before .args .links .now)) (c .before .before .before .before .before .before .before .before .before .args .release .now) (c .before .before .before .before .before .before .before .before .before .args .due .now) (c .before .before .before .before .before .before .before .before .before .args .longest) (c .before .before .before .before .before .before .before .before .before .args .pruning) (c .before .before .before .before .before .before .before .before .before .args .threshold) (c .before .before .before .before .before .before .before .before .before .args .order .now) (c .before .before .before .before .before .before .before .before .before .args .fails .now) (c .before .before .before .before .before .before .before .before .before .args .base) (c .before .before .before .before .before .before .before .before .before .args .n) (stateOf (c .before .before .before .before .before .before .before .before .loop .order) (c .before .before .before .before .before .before .before .before .loop .fails) (c .before .before .before .before .before .before .before .before .loop .times) (c .before .before .before .before .before .before .before .before .loop .by) (c .before .before .before .before .before .before .before .before .loop .w)) (c .before .before .before .before .before .before .before .before .loop .inv) (c .before .before .before .before .before .before .if1 .taken) (stateOf (c .before .step .last .1 .0) (c .before .step .last .1 .1 .0) (c .before .step .last .1 .1 .1 .0) (c .before .step .last .1 .1 .1 .1 .0) (c .before .step .result)) (c .before .step .ensures) (c .if2 .taken)
+returns c = running-broken (c .before .before .before .before .before .before .before .before .before .before .before .loop .inv) (c .before .before .before .before .before .before .before .before .before .if1 .taken) (c .before .step .ensures) (c .if2 .taken)
 
 loop-less : tie.Need-loop-less Inv-loop μ-loop
-loop-less c =
-    let d = c .before .step .ensures (c .before .before .before .before .before .before .before .before .before .pre .ps) (c .before .before .before .before .before .before .before .before .before .pre .ready) (c .before .before .before .before .before .before .before .before .loop .inv .goes (c .before .before .before .before .before .before .before .before .before .pre .ps) (c .before .before .before .before .before .before .before .before .before .pre .ready) (c .before .before .before .before .before .before .before .before .before .pre .carried) (c .before .before .before .before .before .before .before .before .before .pre .count)) (omega (arith, c .before .before .before .before .before .before .if1 .taken, c .before .before .before .before .before .before .before .before .before .pre .count)) in
-    omega (arith, d .taken (c .if2 .left), c .before .before .before .before .before .before .if1 .taken)
+loop-less c = 
+    let d = c .before .step .ensures (c .before .before .before .before .before .before .before .before .before .before .before .before .pre .ps) (c .before .before .before .before .before .before .before .before .before .before .before .before .pre .ready) (c .before .before .before .before .before .before .before .before .before .before .before .loop .inv .goes (c .before .before .before .before .before .before .before .before .before .before .before .before .pre .ps) (c .before .before .before .before .before .before .before .before .before .before .before .before .pre .ready) (c .before .before .before .before .before .before .before .before .before .before .before .before .pre .carried) (c .before .before .before .before .before .before .before .before .before .before .before .before .pre .count)) (omega (arith, c .before .before .before .before .before .before .before .before .before .if1 .taken, c .before .before .before .before .before .before .before .before .before .before .before .before .pre .count)) in
+    omega (arith, d .taken (c .if2 .left), c .before .before .before .before .before .before .before .before .before .if1 .taken)
 
 loop-again : tie.Need-loop-again Inv-loop μ-loop
-loop-again c = running-on (loadOf (c .before .before .before .before .before .before .before .before .before .args .flow .now) (c .before .before .before .before .before .before .before .before .before .args .occupancy .now) (c .before .before .before .before .before .before .before .before .before .args .lens .now) (c .before .before .before .before .before .before .before .before .before .args .links .now)) (c .before .before .before .before .before .before .before .before .before .args .release .now) (c .before .before .before .before .before .before .before .before .before .args .due .now) (c .before .before .before .before .before .before .before .before .before .args .longest) (c .before .before .before .before .before .before .before .before .before .args .pruning) (c .before .before .before .before .before .before .before .before .before .args .threshold) (c .before .before .before .before .before .before .before .before .before .args .order .now) (c .before .before .before .before .before .before .before .before .before .args .fails .now) (c .before .before .before .before .before .before .before .before .before .args .base) (c .before .before .before .before .before .before .before .before .before .args .n) (stateOf (c .before .before .before .before .before .before .before .before .loop .order) (c .before .before .before .before .before .before .before .before .loop .fails) (c .before .before .before .before .before .before .before .before .loop .times) (c .before .before .before .before .before .before .before .before .loop .by) (c .before .before .before .before .before .before .before .before .loop .w)) (c .before .before .before .before .before .before .before .before .loop .inv) (c .before .before .before .before .before .before .if1 .taken) (stateOf (c .before .step .last .1 .0) (c .before .step .last .1 .1 .0) (c .before .step .last .1 .1 .1 .0) (c .before .step .last .1 .1 .1 .1 .0) (c .before .step .result)) (c .before .step .ensures) (c .if2 .left)
+loop-again c = running-on (c .before .before .before .before .before .before .before .before .before .before .before .loop .inv) (c .before .before .before .before .before .before .before .before .before .if1 .taken) (c .before .step .ensures) (c .if2 .left)
 
 returns-2 : tie.Need-returns-2 Inv-loop μ-loop
-returns-2 c = running-whole (loadOf (c .before .before .before .args .flow .now) (c .before .before .before .args .occupancy .now) (c .before .before .before .args .lens .now) (c .before .before .before .args .links .now)) (c .before .before .before .args .release .now) (c .before .before .before .args .due .now) (c .before .before .before .args .longest) (c .before .before .before .args .pruning) (c .before .before .before .args .threshold) (c .before .before .before .args .order .now) (c .before .before .before .args .fails .now) (c .before .before .before .args .base) (c .before .before .before .args .n) (stateOf (c .before .before .loop .order) (c .before .before .loop .fails) (c .before .before .loop .times) (c .before .before .loop .by) (c .before .before .loop .w)) (c .before .before .loop .inv) (c .if1 .left)
+returns-2 c = running-whole (c .before .before .loop .inv) (c .if1 .left)
 
 pub pass-spec : {M : Type 1} → statement M
 pass-spec =

@@ -65,7 +65,7 @@ element-copy-out-if2-2 c = omega (arith, c .before .before .before .before .befo
 
 returns-2 : tie.Need-returns-2 Inv-loop μ-loop
 unfolding samePath every
-returns-2 c = 
+returns-2 c =
     let differ = some-at (λ a. not (eqb (getD (c .before .before .before .before .before .before .before .before .args .links .now) (c .before .before .before .before .before .before .before .before .args .g * 32 + a) 0) (getD (c .before .before .before .before .before .before .before .before .args .links .now) (c .before .before .before .before .before .before .before .before .args .h * 32 + a) 0))) (getD (c .before .before .before .before .before .before .before .before .args .lens .now) (c .before .before .before .before .before .before .before .before .args .g) 0) (c .before .before .before .before .loop .a) (omega (arith, c .before .before .before .loop-test .taken, c .before .before .before .before .loop .inv .1)) (ap not (ne-eqb _ _ (c .if2 .taken))) in
     sym (rw (eq-eqb _ _ (sym (c .before .before .before .before .loop .inv .1) ∙ c .before .before .before .before .loop .inv .2), differ) refl)
 
@@ -80,7 +80,7 @@ loop-again c = (omega (arith, c .before .before .before .loop-test .taken), c .b
 
 returns-3 : tie.Need-returns-3 Inv-loop μ-loop
 unfolding samePath
-returns-3 c = 
+returns-3 c =
     let all = every-all (λ a. eqb (getD (c .before .before .before .before .before .args .links .now) (c .before .before .before .before .before .args .g * 32 + a) 0) (getD (c .before .before .before .before .before .args .links .now) (c .before .before .before .before .before .args .h * 32 + a) 0)) (getD (c .before .before .before .before .before .args .lens .now) (c .before .before .before .before .before .args .g) 0) (λ a h. c .before .loop .inv .3 a (omega (arith, c .loop-test .left, c .before .loop .inv .1))) in
     sym (rw (eq-eqb _ _ (sym (c .before .loop .inv .1) ∙ c .before .loop .inv .2), all) refl)
 

@@ -14,24 +14,14 @@ links-of-requires c κs = c .before .before .pre .1 .whole
 lens-of-requires : tie.Need-lens-of-requires
 lens-of-requires c κs = search needs
 
-longest-of-requires : tie.Need-longest-of-requires
-longest-of-requires c κs = search needs
-
 rounds-requires : tie.Need-rounds-requires
-rounds-requires c κs =
-    let s = c .before .before .before .before .before .before .before .before .before .before .before .before .before .before .before .before .before .pre in
-    record { ps = s .0; ready = modelled-ready (s .1) (c .before .before .before .before .before .before .before .before .before .before .before .before .before .before .links-of .ensures) (c .before .before .before .before .before .before .before .before .before .before .before .before .before .lens-of .ensures) (c .before .before .before .before .before .before .before .longest-of .ensures); count = s .1 .count; keys = c .before .before .before .before .before .before .before .before .before .before .before .before .before .before .before .before .slacks .ensures .long }
+rounds-requires c κs = 
+    let s = c .before .before .before .before .before .before .before .before .before .before .before .before .before .before .before .pre in
+    record { ps = s .0; ready = modelled-ready (s .1) (c .before .before .before .before .before .before .before .before .before .before .before .before .links-of .ensures) (c .before .before .before .before .before .before .before .before .before .before .before .lens-of .ensures); count = s .1 .count; keys = c .before .before .before .before .before .before .before .before .before .before .before .before .before .before .slacks .ensures .long }
 
 returns : tie.Need-returns
-returns c = λ ps m. searched-slack m (c .before .before .before .before .before .before .before .before .before .before .before .before .before .before .before .before .before .slacks .ensures) (c .rounds .ensures ps (modelled-ready m (c .before .before .before .before .before .before .before .before .before .before .before .before .before .before .before .links-of .ensures) (c .before .before .before .before .before .before .before .before .before .before .before .before .before .before .lens-of .ensures) (c .before .before .before .before .before .before .before .before .longest-of .ensures)) (m .count))
+returns c = λ ps m. searched-slack m (c .before .before .before .before .before .before .before .before .before .before .before .before .before .before .before .slacks .ensures) (c .rounds .ensures ps (modelled-ready m (c .before .before .before .before .before .before .before .before .before .before .before .before .before .links-of .ensures) (c .before .before .before .before .before .before .before .before .before .before .before .before .lens-of .ensures)) (m .count))
 
 pub run-spec : {M : Type 1} → statement M
 run-spec =
-    tie.close
-    (tie.spec
-    slacks-requires
-    links-of-requires
-    lens-of-requires
-    longest-of-requires
-    rounds-requires
-    returns)
+    tie.close (tie.spec slacks-requires links-of-requires lens-of-requires rounds-requires returns)
