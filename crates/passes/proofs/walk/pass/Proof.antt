@@ -25,7 +25,7 @@ returns : tie.Need-returns Inv-loop μ-loop
 returns c = running-broken (c .before .before .before .before .before .before .before .before .before .before .before .loop .inv) (c .before .before .before .before .before .before .before .before .before .if1 .taken) (c .before .step .ensures) (c .if2 .taken)
 
 loop-less : tie.Need-loop-less Inv-loop μ-loop
-loop-less c = 
+loop-less c =
     let d = c .before .step .ensures (c .before .before .before .before .before .before .before .before .before .before .before .before .pre .ps) (c .before .before .before .before .before .before .before .before .before .before .before .before .pre .ready) (c .before .before .before .before .before .before .before .before .before .before .before .loop .inv .goes (c .before .before .before .before .before .before .before .before .before .before .before .before .pre .ps) (c .before .before .before .before .before .before .before .before .before .before .before .before .pre .ready) (c .before .before .before .before .before .before .before .before .before .before .before .before .pre .carried) (c .before .before .before .before .before .before .before .before .before .before .before .before .pre .count)) (omega (arith, c .before .before .before .before .before .before .before .before .before .if1 .taken, c .before .before .before .before .before .before .before .before .before .before .before .before .pre .count)) in
     omega (arith, d .taken (c .if2 .left), c .before .before .before .before .before .before .before .before .before .if1 .taken)
 

@@ -9,22 +9,22 @@ use Rattle.passes.proofs.walk.step.Statement.{statement}
 use Rattle.passes.proofs.walk.step.Tie as tie
 
 mul-packet : tie.Need-mul-packet
-mul-packet c = 
+mul-packet c =
     let s = c .before in
     omega (arith, s .pre .more, s .pre .ready .held .few)
 
 element-copy-out-packet : tie.Need-element-copy-out-packet
-element-copy-out-packet c = 
+element-copy-out-packet c =
     let s = c .before in
     omega (arith, s .pre .more, s .pre .ready .held .few)
 
 cast-p : tie.Need-cast-p
-cast-p c = 
+cast-p c =
     let s = c .before .before in
     omega (arith, next-in (s .pre .ready) (s .pre .going) (s .pre .more), s .pre .ready .held .few)
 
 place-requires : tie.Need-place-requires
-place-requires c κs = 
+place-requires c κs =
     let s = c .before .before .before .before .before .before in
     place-asks (s .pre .ready) (s .pre .going) (s .pre .more)
 
@@ -32,12 +32,12 @@ enum-known-placed : tie.Need-enum-known-placed
 enum-known-placed c = search needs
 
 settle-requires : tie.Need-settle-requires
-settle-requires c κs = 
+settle-requires c κs =
     let s = c .before .before .before .before .before .before .before .before .before .before .before .before .before .before .before in
     settles (s .pre .ready) (s .pre .going) (s .pre .more) (c .before .before .before .before .before .before .before .before .place .ensures (s .pre .ps) (take (length (s .pre .ps)) (s .args .times .now)) (s .pre .ready .held) (s .pre .going .covers) (next-in (s .pre .ready) (s .pre .going) (s .pre .more))) (c .before .before .before .before .before .before .placed .given .1)
 
 add-t42 : tie.Need-add-t42
-add-t42 c = 
+add-t42 c =
     let s = c .before .before .before .before .before .before .before .before .before .before .before .before .before .before .before .before in
     omega (arith, s .pre .more, s .pre .ready .held .few)
 
@@ -45,7 +45,7 @@ cast-t43 : tie.Need-cast-t43
 cast-t43 c = search needs
 
 add-t44 : tie.Need-add-t44
-add-t44 c = 
+add-t44 c =
     let s = c .before .before .before .before .before .before .before .before .before .before .before .before .before .before .before .before .before in
     omega (arith, tries-few (s .pre .ready) (s .pre .going) (s .pre .more) (c .before .before .before .before .before .before .before .before .before .before .place .ensures (s .pre .ps) (take (length (s .pre .ps)) (s .args .times .now)) (s .pre .ready .held) (s .pre .going .covers) (next-in (s .pre .ready) (s .pre .going) (s .pre .more))) (c .before .before .before .before .before .before .before .before .placed .given .1), s .pre .going .bounded, s .pre .more, s .pre .ready .held .few)
 
@@ -53,12 +53,12 @@ enum-known-placed-2 : tie.Need-enum-known-placed-2
 enum-known-placed-2 c = search needs
 
 raise-requires : tie.Need-raise-requires
-raise-requires c κs = 
+raise-requires c κs =
     let s = c .before .before .before .before .before .before .before .before .before .before .before in
     record { long = s .pre .going .carried .fails-long; within = omega (arith, next-in (s .pre .ready) (s .pre .going) (s .pre .more), s .pre .ready .held .few); low = omega (arith, next-below (s .pre .ready) (s .pre .going) (s .pre .more), s .pre .ready .high) }
 
 put-in-requires : tie.Need-put-in-requires
-put-in-requires c κs = 
+put-in-requires c κs =
     let s = c .before .before .before .before .before .before .before .before .before .before .before .before .before in
     record { long = s .pre .going .carried .order-long; order = s .pre .going .low; within = omega (arith, s .pre .more, s .pre .ready .held .few) }
 
@@ -69,7 +69,7 @@ cast-t50 : tie.Need-cast-t50
 cast-t50 c = search needs
 
 add-t51 : tie.Need-add-t51
-add-t51 c = 
+add-t51 c =
     let s = c .before .before .before .before .before .before .before .before .before .before .before .before .before .before .before .before in
     omega (arith, all-few (s .pre .ready) (s .pre .going) (s .pre .more) (c .before .before .before .before .before .before .before .before .before .place .ensures (s .pre .ps) (take (length (s .pre .ps)) (s .args .times .now)) (s .pre .ready .held) (s .pre .going .covers) (next-in (s .pre .ready) (s .pre .going) (s .pre .more))) (c .before .before .before .before .before .before .before .placed2 .given .1), s .pre .going .bounded, s .pre .more, s .pre .ready .held .few)
 
@@ -77,12 +77,12 @@ returns : tie.Need-returns
 returns c = λ ps ready going more. rw (c .before .before .put-in .ensures, c .before .before .before .before .raise .ensures .1) (after-failed ready going more (c .before .before .before .before .before .before .before .before .before .place .ensures ps (take (length ps) (c .before .before .before .before .before .before .before .before .before .before .before .before .before .before .before .before .args .times .now)) (ready .held) (going .covers) (next-in ready going more)) (c .before .before .before .before .before .before .before .placed2 .given .1) (rw (sym (c .before .before .before .before .raise .ensures .0)) (c .before .if1 .taken)))
 
 add-t52 : tie.Need-add-t52
-add-t52 c = 
+add-t52 c =
     let s = c .before .before .before .before .before .before .before .before .before .before .before .before .before .before .before in
     omega (arith, s .pre .going .low, s .pre .more, s .pre .ready .held .few)
 
 add-t53 : tie.Need-add-t53
-add-t53 c = 
+add-t53 c =
     let s = c .before .before .before .before .before .before .before .before .before .before .before .before .before .before .before in
     omega (arith, s .pre .more, s .pre .ready .held .few)
 
@@ -90,7 +90,7 @@ cast-t54 : tie.Need-cast-t54
 cast-t54 c = search needs
 
 add-t55 : tie.Need-add-t55
-add-t55 c = 
+add-t55 c =
     let s = c .before .before .before .before .before .before .before .before .before .before .before .before .before .before .before .before in
     omega (arith, all-few (s .pre .ready) (s .pre .going) (s .pre .more) (c .before .before .before .before .before .before .before .before .before .place .ensures (s .pre .ps) (take (length (s .pre .ps)) (s .args .times .now)) (s .pre .ready .held) (s .pre .going .covers) (next-in (s .pre .ready) (s .pre .going) (s .pre .more))) (c .before .before .before .before .before .before .before .placed2 .given .1), s .pre .going .bounded, s .pre .more, s .pre .ready .held .few)
 

@@ -15,7 +15,7 @@ lens-of-requires : tie.Need-lens-of-requires
 lens-of-requires c κs = search needs
 
 rounds-requires : tie.Need-rounds-requires
-rounds-requires c κs = 
+rounds-requires c κs =
     let s = c .before .before .before .before .before .before .before .before .before .before .before .before .before .before .before .pre in
     record { ps = s .0; ready = modelled-ready (s .1) (c .before .before .before .before .before .before .before .before .before .before .before .before .links-of .ensures) (c .before .before .before .before .before .before .before .before .before .before .before .lens-of .ensures); count = s .1 .count; keys = c .before .before .before .before .before .before .before .before .before .before .before .before .before .before .slacks .ensures .long }
 
