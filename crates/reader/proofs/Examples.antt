@@ -8,7 +8,8 @@ use Rattle.basics.specs.Lists.{padded}
 use Rattle.words.specs.Bytes.{bytes, sameBytes}
 use Rattle.records.specs.Numbers.{isDigit, allDigits, noLeadingZero, isFormed, valueFrom, valueOf, isNumber}
 use Rattle.records.specs.Records.{onto, splitBy, areNumbers, fieldsOf, isRecord, numbersIn}
-use Rattle.reader.specs.Reader.{goodLine, badLine, partsOf, allNumbers, meshOf, flowsKept, wellFormed, inputIn, inputOf}
+use Rattle.lines.specs.Form.{goodLine, badLine, partsOf, allNumbers, flowsKept}
+use Rattle.reader.specs.Reader.{meshOf, wellFormed, inputIn, inputOf}
 
 -- ---- Case A
 

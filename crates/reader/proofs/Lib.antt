@@ -1,8 +1,5 @@
--- The laws that the functions' proofs rest on; then the promises: what is read back, examples, and that what a text says is determined.
+-- The laws of the whole text; then the promises: what is read back, examples, and that what a text says is determined.
 pub mod Determined
 pub mod Examples
-pub mod FlowLines
-pub mod Keeping
 pub mod RoundTrip
-pub mod TextLines
 pub mod WholeText

@@ -16,13 +16,14 @@ use Rattle.words.specs.Bytes.{bytes, tab, feed, sameBytes}
 use Rattle.words.specs.Decimal.{decimal}
 use Rattle.records.specs.Numbers.{isDigit, allDigits, isNumber, valueOf}
 use Rattle.records.specs.Records.{onto, splitBy, largest, areNumbers, fieldsOf, isRecord, numbersIn}
-use Rattle.reader.specs.Reader.{goodLine, badLine, partsOf, allNumbers, flowsKept, limit, inputOf}
+use Rattle.lines.specs.Form.{goodLine, badLine, partsOf, allNumbers, flowsKept}
+use Rattle.reader.specs.Reader.{limit, inputOf}
 use Rattle.words.specs.Fields.{field, ended}
 use Rattle.reader.specs.ModelText.{fields, lineOf, flowText, modelText, allOf}
 use Rattle.records.proofs.ReadBack.{decimal-digits, number-reads-back}
-use Rattle.reader.proofs.FlowLines.{flow-kind}
+use Rattle.lines.proofs.FlowLines.{flow-kind}
 use Rattle.records.proofs.Spelling.{digit-low, good-number}
-use Rattle.reader.proofs.TextLines.{bad-later}
+use Rattle.lines.proofs.TextLines.{bad-later}
 use Rattle.reader.proofs.WholeText.{says, says-parts, input-good}
 
 -- ---- texts with no place of a byte

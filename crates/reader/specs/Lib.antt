@@ -1,4 +1,3 @@
--- The text that is read: what it says, a model's own lines as text, and the steps of the code.
+-- What a text says, and a model's own lines as text.
 pub mod Reader
 pub mod ModelText
-pub mod Steps

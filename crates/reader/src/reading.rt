@@ -1,17 +1,12 @@
 // The text reader: a mesh line, a search line, then flow lines.
+use lines::no_flows;
+use lines::read_flows;
+use lines::read_line;
 use model::Mesh;
-use records::find;
-use records::read_record;
-use words::FEED;
-use words::FLOW;
 use words::MESH;
 use words::SEARCH;
 ghost use mathlib.Core.Path.{_≡_};
-ghost use mathlib.Core.List.{[]};
-ghost use Prim.Native.Nat.{_≤_};
-ghost use lib.ListN.{length, drop};
-ghost use Rattle.reader.specs.Reader.{partsOf, flowsKept, malformedAt, inputOf};
-ghost use Rattle.reader.specs.Steps.{noLine, lineAt, storedAt, flowLines};
+ghost use Rattle.reader.specs.Reader.{malformedAt, inputOf};
 
 // The largest text that is read.
 pub const LIMIT: usize = 8192;
@@ -26,104 +21,6 @@ pub struct Input {
     pub threshold: u32,
     pub numbers: [u32; 325],
     pub flows: usize,
-}
-
-// A line of the text, with its numbers and the place behind it, or no good line.
-struct Line {
-    good: bool,
-    numbers: [u32; 5],
-    next: usize,
-}
-
-// The flow lines: the first bad line, or 0 with their numbers and their count.
-struct Lines {
-    bad: u32,
-    numbers: [u32; 325],
-    count: usize,
-}
-
-// No good line.
-fn no_line() -> Line
-    ensures { λ r. ⌜ r ≡ noLine ⌝ }
-{
-    Line {
-        good: false,
-        numbers: [0u32; 5],
-        next: 0,
-    }
-}
-
-// The line at a place, as the record of a word and n numbers; its line feed must end it.
-fn read_line(text: &[u8], at: usize, word: &[u8], n: usize) -> Line
-    requires { ⌜ (n ≤ 5) × (at ≤ length (now text)) ⌝ }
-    ensures { λ r. ⌜ r ≡ lineAt (now (word .entry)) n (now (text .entry)) at ⌝ }
-{
-    let end = find(text, FEED, at);
-    if text.len() <= end {
-        return no_line();
-    }
-    let record = read_record(&text[at..end], word, n);
-    if !record.good {
-        return no_line();
-    }
-    let numbers = record.numbers;
-    Line {
-        good: true,
-        numbers,
-        next: end + 1,
-    }
-}
-
-// No flow's numbers.
-fn no_flows() -> [u32; 325]
-    ensures { λ r. ⌜ r ≡ flowsKept [] ⌝ }
-{
-    [0u32; 325]
-}
-
-// The numbers with a flow's five in their place; a flow past the 65th is not kept.
-fn stored(numbers: [u32; 325], count: usize, five: [u32; 5]) -> [u32; 325]
-    ensures { λ r. ⌜ r ≡ storedAt numbers count five ⌝ }
-{
-    if 65 <= count {
-        return numbers;
-    }
-    let mut next = numbers;
-    let at = 5 * count;
-    for j in 0..5usize {
-        next[at + j] = five[j];
-    }
-    next
-}
-
-// The flow lines from a place on, of which the first is line 3.
-fn read_flows(text: &[u8], from: usize) -> Lines
-    requires { ⌜ (from ≤ length (now text)) × (length (now text) ≤ 8192) ⌝ }
-    ensures { λ r. ⌜ r ≡ flowLines (partsOf (drop from (now (text .entry)))) ⌝ }
-{
-    let mut at = from;
-    let mut count: usize = 0;
-    let mut numbers = no_flows();
-    while at < text.len() {
-        let line = read_line(text, at, &FLOW, 5);
-        if !line.good {
-            return Lines {
-                bad: (count + 3) as u32,
-                numbers: no_flows(),
-                count: 0,
-            };
-        }
-        let five = line.numbers;
-        let next = stored(numbers, count, five);
-        numbers = next;
-        count += 1;
-        at = line.next;
-    }
-    Lines {
-        bad: 0,
-        numbers,
-        count,
-    }
 }
 
 // Text that is malformed, with its first bad line.

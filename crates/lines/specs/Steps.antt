@@ -9,9 +9,9 @@ use Rattle.basics.specs.Choose.{both, choose}
 use Rattle.basics.specs.Lists.{padded}
 use Rattle.words.specs.Bytes.{feed}
 use Rattle.records.specs.Records.{indexOf, isRecord, numbersIn}
-use Rattle.reader.specs.Reader.{badLine, allNumbers, flowsKept}
-use Rattle.reader.specs.declared.reading.Line.{Line}
-use Rattle.reader.specs.declared.reading.Lines.{Lines}
+use Rattle.lines.specs.Form.{badLine, allNumbers, flowsKept}
+use Rattle.lines.specs.declared.taking.Line.{Line}
+use Rattle.lines.specs.declared.flows.Lines.{Lines}
 
 -- the line at a place of the text, without its line feed
 unfoldable pub lineFrom : List ℕ → ℕ → List ℕ

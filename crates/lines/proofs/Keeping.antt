@@ -14,8 +14,8 @@ use Rattle.basics.proofs.Choose.{both-second}
 use Rattle.words.specs.Bytes.{sameBytes}
 use Rattle.records.specs.Numbers.{isNumber, valueOf}
 use Rattle.records.specs.Records.{largest, areNumbers, fieldsOf, isRecord, numbersIn}
-use Rattle.reader.specs.Reader.{flowsKept}
-use Rattle.reader.specs.Steps.{storedAt}
+use Rattle.lines.specs.Form.{flowsKept}
+use Rattle.lines.specs.Steps.{storedAt}
 
 -- ---- how many numbers a record has
 

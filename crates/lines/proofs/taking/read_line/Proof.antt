@@ -1,11 +1,11 @@
--- `reader::reading::read_line` meets its contract: the line is the slice up to the next line feed, and a record of the word where `read_record` says so.
+-- `lines::taking::read_line` meets its contract: the line is the slice up to the next line feed, and a record of the word where `read_record` says so.
 use native.Mathlib.Omega.{arith}
 use mathlib.Core.Path.{_∙_}
 use borrow.Author.Tests.{not-true, not-false}
-use Rattle.reader.proofs.TextLines.{line-unended, line-wrong, line-right}
+use Rattle.lines.proofs.TextLines.{line-unended, line-wrong, line-right}
 use borrow.Author.Needs.{needs}
-use Rattle.reader.proofs.reading.read_line.Statement.{statement}
-use Rattle.reader.proofs.reading.read_line.Tie as tie
+use Rattle.lines.proofs.taking.read_line.Statement.{statement}
+use Rattle.lines.proofs.taking.read_line.Tie as tie
 
 find-requires : tie.Need-find-requires
 find-requires c κs = search needs

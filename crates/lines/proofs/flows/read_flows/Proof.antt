@@ -1,11 +1,11 @@
--- `reader::reading::read_flows` meets its contract: between two lines the loop knows `Flowing`, and each way out is a law of it.
+-- `lines::flows::read_flows` meets its contract: between two lines the loop knows `Flowing`, and each way out is a law of it.
 use Prim.Native.Nat.{_-_}
 use borrow.Author.Tests.{not-true, not-false}
 use lib.ListN.{length}
-use Rattle.reader.proofs.FlowLines.{Flowing, flowing-begins, flowing-ends, flowing-bad, flowing-less, flowing-on}
+use Rattle.lines.proofs.FlowLines.{Flowing, flowing-begins, flowing-ends, flowing-bad, flowing-less, flowing-on}
 use borrow.Author.Needs.{needs}
-use Rattle.reader.proofs.reading.read_flows.Statement.{statement}
-use Rattle.reader.proofs.reading.read_flows.Tie as tie
+use Rattle.lines.proofs.flows.read_flows.Statement.{statement}
+use Rattle.lines.proofs.flows.read_flows.Tie as tie
 
 abbrev Inv-loop : tie.InvT-loop
 Inv-loop text from at₀ count₀ numbers₀ t9 at count numbers = Flowing text from at count numbers

@@ -1,4 +1,4 @@
--- `reader::reading::stored` meets its contract: after j turns the first j of the five stand in their places.
+-- `lines::flows::stored` meets its contract: after j turns the first j of the five stand in their places.
 use mathlib.Core.Path.{_≡_, refl, sym, _∙_, ap}
 use mathlib.Core.List.{List}
 use Prim.Native.Nat.{ℕ, _+_, _-_, _*_, _≤_, _<_}
@@ -7,10 +7,10 @@ use native.Mathlib.Omega.{arith}
 use borrow.Author.Tests.{lt-ltb, le-ltb}
 use lib.ListN.{length, getD, set}
 use lib.Seq.{paste, paste-zero, paste-suc}
-use Rattle.reader.specs.Steps.{storedAt}
+use Rattle.lines.specs.Steps.{storedAt}
 use borrow.Author.Needs.{needs}
-use Rattle.reader.proofs.reading.stored.Statement.{statement}
-use Rattle.reader.proofs.reading.stored.Tie as tie
+use Rattle.lines.proofs.flows.stored.Statement.{statement}
+use Rattle.lines.proofs.flows.stored.Tie as tie
 
 -- j of the five stand in their places
 record Copied (count : ℕ) (five numbers : List ℕ) (at : ℕ) (next : List ℕ) (j : ℕ) : Type 0 where
