@@ -12,11 +12,12 @@ use lib.Seq.{drop-length}
 use Rattle.basics.specs.Lists.{padded}
 use Rattle.words.specs.Bytes.{bytes}
 use Rattle.records.specs.Records.{splitBy, fieldsOf, isRecord, numbersIn}
+use Rattle.records.proofs.Recording.{record-count}
 use Rattle.lines.specs.Form.{goodLine, badLine, partsOf, allNumbers, flowsKept}
 use Rattle.lines.specs.Steps.{lineFrom, feedFrom, goodFrom, lineAt, storedAt, flowLines}
 use Rattle.lines.specs.declared.taking.Line.{Line}
 use Rattle.lines.proofs.TextLines.{line-ends, line-is, line-from, parts-on, line-bad, line-good}
-use Rattle.lines.proofs.Keeping.{record-count, kept-more}
+use Rattle.lines.proofs.Keeping.{kept-more}
 
 -- ---- the flow lines by their first bad line
 

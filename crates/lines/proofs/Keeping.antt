@@ -1,40 +1,17 @@
--- Laws of numbers kept in an array that is filled from the front: how many numbers a record has, and five more stored behind those kept.
+-- Laws of numbers kept in an array that is filled from the front: five more stored behind those kept.
 use mathlib.Core.Path.{_≡_, refl, sym, _∙_, ap}
-use mathlib.Core.Bool.{Bool, true, false, false≢true}
-use mathlib.Core.List.{List, [], _∷_, _++_, tail}
+use mathlib.Core.Bool.{Bool, true, false}
+use mathlib.Core.List.{List, _++_}
 use Prim.Native.Nat.{ℕ, zero, suc, _+_, _-_, _*_, _≤_}
 use native.Mathlib.Nat.{sub-zero, suc-sub-suc}
 use native.Mathlib.Omega.{arith}
 use borrow.Author.Tests.{ltb-true, ltb-false}
 use lib.Dec.{ltb}
-use lib.ListN.{length, take, drop, replicate, length-append, length-map, getD}
+use lib.ListN.{length, take, drop, replicate, length-append}
 use lib.Seq.{paste, take-at, take-all, take-length, take-append-le, drop-append-add}
 use Rattle.basics.specs.Lists.{padded}
-use Rattle.basics.proofs.Choose.{both-second}
-use Rattle.words.specs.Bytes.{sameBytes}
-use Rattle.records.specs.Numbers.{isNumber, valueOf}
-use Rattle.records.specs.Records.{largest, areNumbers, fieldsOf, isRecord, numbersIn}
 use Rattle.lines.specs.Form.{flowsKept}
 use Rattle.lines.specs.Steps.{storedAt}
-
--- ---- how many numbers a record has
-
--- fields that are so many numbers are so many
-numbers-count : (n : ℕ) (fields : List (List ℕ)) → areNumbers n fields ≡ true → length fields ≡ n
-unfolding areNumbers
-numbers-count zero [] e = refl
-numbers-count zero (field ∷ fields) e = absurd (false≢true e)
-numbers-count (suc n) [] e = absurd (false≢true e)
-numbers-count (suc n) (field ∷ fields) e = ap suc (numbers-count n fields (both-second (isNumber 10 largest field) (areNumbers n fields) e))
-
--- a record has as many numbers as its kind
-pub record-count : (word line : List ℕ) (n : ℕ) → isRecord word n line ≡ true → length (numbersIn line) ≡ n
-unfolding isRecord numbersIn
-record-count word line n e =
-    length-map (tail (fieldsOf line)) valueOf
-    ∙ numbers-count n (tail (fieldsOf line)) (both-second (sameBytes (getD (fieldsOf line) 0 []) word) (areNumbers n (tail (fieldsOf line))) e)
-
--- ---- a list filled up, with more stored behind it
 
 -- fewer of one value
 drop-replicate : (j m : ℕ) → drop {A = ℕ} j (replicate m 0) ≡ replicate (m - j) 0

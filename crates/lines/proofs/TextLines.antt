@@ -14,11 +14,11 @@ use Rattle.basics.specs.Lists.{padded}
 use Rattle.basics.proofs.Choose.{both-not, both-first, both-second}
 use Rattle.words.specs.Bytes.{feed}
 use Rattle.records.specs.Records.{indexOf, isRecord, numbersIn, goodRecord, badRecord, recordOf}
+use Rattle.records.specs.declared.fields.Record.{Record}
+use Rattle.records.proofs.Places.{index-le, behind, split-at-first, behind-at, behind-end}
 use Rattle.lines.specs.Form.{goodLine, badLine, partsOf}
 use Rattle.lines.specs.Steps.{lineFrom, feedFrom, noLine, goodFrom, lineAt}
-use Rattle.records.specs.declared.fields.Record.{Record}
 use Rattle.lines.specs.declared.taking.Line.{Line}
-use Rattle.records.proofs.Places.{index-le, behind, split-at-first, behind-at, behind-end}
 
 -- ---- a record by its fields
 

@@ -1,8 +1,8 @@
 -- Whole texts printed: Case A, a table with a skipped packet, and a refusal.
 use mathlib.Core.Path.{_≡_, refl}
 use mathlib.Core.List.{[], _∷_}
+use Rattle.digits.specs.Numbers.{decimalWithin, decimal}
 use Rattle.words.specs.Bytes.{bytes}
-use Rattle.words.specs.Decimal.{decimalWithin, decimal}
 use Rattle.words.specs.Fields.{field, skippedTime, timeField, ended}
 use Rattle.printer.specs.Printer.{tableLine, injectLine, endLine, refuseLine, printsTable, injectOf, injectLines, endOf, outputOf}
 

@@ -9,12 +9,12 @@ use lib.Dec.{ltb}
 use lib.ListN.{length, getD, take, drop, length-append}
 use lib.Seq.{take-at}
 use Rattle.model.specs.declared.answers.Answer.{Answer}
-use Rattle.printer.specs.Printer.{tableLine, injectLine, refuseLine, printsTable, injectOf, injectLines, endOf, outputOf, pieceAt, nextOf, isDone, longest, pieceIn, nextIn, pieceOf, Printed, restOf, piecesLeft, piecesOf}
 use Rattle.words.specs.Writer.{Put, inFront}
+use Rattle.words.proofs.Putting.{put-front}
+use Rattle.printer.specs.Printer.{tableLine, injectLine, refuseLine, printsTable, injectOf, injectLines, endOf, outputOf, pieceAt, nextOf, isDone, longest, pieceIn, nextIn, pieceOf, Printed, restOf, piecesLeft, piecesOf}
 use Rattle.printer.specs.declared.printing.Cursor.{Cursor}
 use Rattle.printer.specs.declared.printing.Cursor.the-variants.{First, Packet, Done}
 use Rattle.printer.specs.declared.printing.Piece.{Piece}
-use Rattle.words.proofs.Putting.{put-front}
 
 -- ---- the cursor behind each line
 

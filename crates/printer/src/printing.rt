@@ -14,8 +14,8 @@ ghost use mathlib.Core.List.{_++_};
 ghost use Prim.Native.Nat.{_+_, _≤_};
 ghost use lib.ListN.{length, getD};
 ghost use Rattle.words.specs.Fields.{field, ended};
-ghost use Rattle.printer.specs.Printer.{injectLine, endLine, printsTable, Printed};
 ghost use Rattle.words.specs.Writer.{Put};
+ghost use Rattle.printer.specs.Printer.{injectLine, endLine, printsTable, Printed};
 ghost use Rattle.printer.specs.declared.printing.Cursor.the-variants.{First, Packet};
 
 // A buffer of so many bytes has room for any line.

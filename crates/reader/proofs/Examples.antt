@@ -5,8 +5,8 @@ use mathlib.Core.List.{List, [], _∷_, map}
 use Prim.Native.Nat.{ℕ}
 use Prim.Native.String.{String}
 use Rattle.basics.specs.Lists.{padded}
+use Rattle.digits.specs.Numbers.{isDigit, allDigits, noLeadingZero, isFormed, valueFrom, valueOf, isNumber}
 use Rattle.words.specs.Bytes.{bytes, sameBytes}
-use Rattle.records.specs.Numbers.{isDigit, allDigits, noLeadingZero, isFormed, valueFrom, valueOf, isNumber}
 use Rattle.records.specs.Records.{onto, splitBy, areNumbers, fieldsOf, isRecord, numbersIn}
 use Rattle.lines.specs.Form.{goodLine, badLine, partsOf, allNumbers, flowsKept}
 use Rattle.reader.specs.Reader.{meshOf, wellFormed, inputIn, inputOf}

@@ -12,18 +12,18 @@ use Rattle.basics.specs.Choose.{both}
 use Rattle.basics.proofs.Choose.{both-pass, both-first, both-second}
 use Rattle.basics.proofs.Each.{Each}
 use Rattle.model.specs.declared.flows.Mesh.{Mesh}
+use Rattle.digits.specs.Numbers.{numberOf, isDigit, allDigits, isNumber, valueOf, decimal}
+use Rattle.digits.specs.declared.digits.Number.the-variants.{Good}
+use Rattle.digits.proofs.Decimals.{reads-back, decimal-digits}
+use Rattle.digits.proofs.Spelling.{digit-low, good-number}
 use Rattle.words.specs.Bytes.{bytes, tab, feed, sameBytes}
-use Rattle.words.specs.Decimal.{decimal}
-use Rattle.records.specs.Numbers.{isDigit, allDigits, isNumber, valueOf}
+use Rattle.words.specs.Fields.{field, ended}
 use Rattle.records.specs.Records.{onto, splitBy, largest, areNumbers, fieldsOf, isRecord, numbersIn}
 use Rattle.lines.specs.Form.{goodLine, badLine, partsOf, allNumbers, flowsKept}
-use Rattle.reader.specs.Reader.{limit, inputOf}
-use Rattle.words.specs.Fields.{field, ended}
-use Rattle.reader.specs.ModelText.{fields, lineOf, flowText, modelText, allOf}
-use Rattle.records.proofs.ReadBack.{decimal-digits, number-reads-back}
 use Rattle.lines.proofs.FlowLines.{flow-kind}
-use Rattle.records.proofs.Spelling.{digit-low, good-number}
 use Rattle.lines.proofs.TextLines.{bad-later}
+use Rattle.reader.specs.Reader.{limit, inputOf}
+use Rattle.reader.specs.ModelText.{fields, lineOf, flowText, modelText, allOf}
 use Rattle.reader.proofs.WholeText.{says, says-parts, input-good}
 
 -- ---- texts with no place of a byte
@@ -83,6 +83,14 @@ fields-free (n ∷ numbers) = free-append feed (tab ∷ decimal n) (fields numbe
 -- numbers that fit 32 bits
 abbrev pub Fit : List ℕ → Type 0
 Fit numbers = Each (λ (n : ℕ). n ≤ largest) numbers
+
+-- a number of 32 bits printed reads back as itself
+pub number-reads-back : (n : ℕ) → n ≤ largest → numberOf 10 largest (decimal n) ≡ Good n
+number-reads-back n h = reads-back 9 largest n h (omega arith)
+
+-- and so does one of 64 bits, in up to 20 digits, as the tries may be
+pub tries-read-back : (n : ℕ) → n < 18446744073709551616 → numberOf 20 18446744073709551615 (decimal n) ≡ Good n
+tries-read-back n h = reads-back 19 18446744073709551615 n (omega arith) (omega arith)
 
 -- each field is a number, and its own value
 fields-numbers : (numbers : List ℕ) → Fit numbers → areNumbers (length numbers) (map decimal numbers) ≡ true

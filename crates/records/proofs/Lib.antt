@@ -1,6 +1,4 @@
--- The laws of fields as numbers, of places in a text and of a line's walk; then that numbers read back, and that answers are determined.
+-- The laws of places in a text and of the walk along a line; then that answers are determined.
 pub mod Determined
 pub mod Places
-pub mod ReadBack
 pub mod Recording
-pub mod Spelling

@@ -1,21 +1,22 @@
 -- Laws of a line as a record, as a walk from field to field meets them. `Walked` is what the walk knows between two fields; then each
--- way on from it, or out of it.
+-- way on from it, or out of it. Last, how many numbers a record has.
 use mathlib.Core.Path.{_≡_, refl, sym, _∙_, ap}
-use mathlib.Core.Bool.{true, false}
-use mathlib.Core.List.{List, [], _∷_, _++_, map, append-assoc, append-nil}
-use Prim.Native.Nat.{ℕ, suc, _+_, _-_, _≤_, _<_}
+use mathlib.Core.Bool.{true, false, false≢true}
+use mathlib.Core.List.{List, [], _∷_, _++_, map, tail, append-assoc, append-nil}
+use Prim.Native.Nat.{ℕ, zero, suc, _+_, _-_, _≤_, _<_}
 use native.Mathlib.Omega.{arith}
-use lib.ListN.{length, set, take, drop, length-append}
+use lib.ListN.{length, getD, set, take, drop, length-append, length-map}
 use lib.Seq.{drop-drop}
 use Rattle.basics.specs.Choose.{both}
 use Rattle.basics.specs.Lists.{padded}
+use Rattle.basics.proofs.Choose.{both-second}
 use Rattle.basics.proofs.Lists.{padded-push}
+use Rattle.digits.specs.Numbers.{isNumber, valueOf, numberOf}
+use Rattle.digits.specs.declared.digits.Number.the-variants.{Good, Bad}
+use Rattle.digits.proofs.Spelling.{bad-number, good-number}
 use Rattle.words.specs.Bytes.{tab, sameBytes}
-use Rattle.records.specs.Numbers.{isNumber, valueOf, numberOf}
 use Rattle.records.specs.Records.{indexOf, largest, areNumbers, fieldsOf, isRecord, numbersIn, goodRecord, badRecord, recordOf}
-use Rattle.records.specs.declared.digits.Number.the-variants.{Good, Bad}
 use Rattle.records.proofs.Places.{behind, split-at-first, behind-at, behind-end}
-use Rattle.records.proofs.Spelling.{bad-number, good-number}
 
 -- ---- the whole line by its test
 
@@ -153,3 +154,20 @@ module _ (word line : List ℕ) (n end : ℕ) (numbers : List ℕ) (i : ℕ) (s 
               ∙ ap (λ (x : List (List ℕ)). s .done ++ map valueOf x) (sym fields-on)
               ∙ s .values;
         }
+
+-- ---- how many numbers a record has
+
+-- fields that are so many numbers are so many
+numbers-count : (n : ℕ) (fields : List (List ℕ)) → areNumbers n fields ≡ true → length fields ≡ n
+unfolding areNumbers
+numbers-count zero [] e = refl
+numbers-count zero (field ∷ fields) e = absurd (false≢true e)
+numbers-count (suc n) [] e = absurd (false≢true e)
+numbers-count (suc n) (field ∷ fields) e = ap suc (numbers-count n fields (both-second (isNumber 10 largest field) (areNumbers n fields) e))
+
+-- a record has as many numbers as its kind
+pub record-count : (word line : List ℕ) (n : ℕ) → isRecord word n line ≡ true → length (numbersIn line) ≡ n
+unfolding isRecord numbersIn
+record-count word line n e =
+    length-map (tail (fieldsOf line)) valueOf
+    ∙ numbers-count n (tail (fieldsOf line)) (both-second (sameBytes (getD (fieldsOf line) 0 []) word) (areNumbers n (tail (fieldsOf line))) e)

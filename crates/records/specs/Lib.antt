@@ -1,3 +1,2 @@
--- Numbers in digits, and lines and fields.
-pub mod Numbers
+-- Lines and fields.
 pub mod Records

@@ -6,8 +6,8 @@ use lib.Dec.{eqb}
 use lib.ListN.{getD}
 use Rattle.basics.specs.Choose.{both, choose}
 use Rattle.basics.specs.Lists.{padded}
+use Rattle.digits.specs.Numbers.{isNumber, valueOf}
 use Rattle.words.specs.Bytes.{tab, sameBytes}
-use Rattle.records.specs.Numbers.{isNumber, valueOf}
 use Rattle.records.specs.declared.fields.Record.{Record}
 
 -- a byte in front of the first part

@@ -1,6 +1,6 @@
 // A line taken apart: its word, and the numbers behind it.
-use crate::digits::Number;
-use crate::digits::read_number;
+use digits::Number;
+use digits::read_number;
 use words::TAB;
 ghost use mathlib.Core.Path.{_≡_};
 ghost use Prim.Native.Nat.{_+_, _≤_};

@@ -1,5 +1,4 @@
-// Lines taken apart: the numbers of fields in digits, and a line as the record of a word.
-mod digits;
+// A line taken apart, as the record of a word.
 mod fields;
 
 pub use fields::Record;

@@ -1,4 +1,3 @@
--- The laws of digits and of text written into a buffer; then that what is written is determined.
-pub mod Decimals
+-- The laws of text written into a buffer; then that what is written is determined.
 pub mod Determined
 pub mod Putting

@@ -3,8 +3,8 @@ use mathlib.Core.List.{List, [], _∷_}
 use Prim.Native.Nat.{ℕ}
 use lib.Dec.{eqb}
 use Rattle.basics.specs.Choose.{choose}
+use Rattle.digits.specs.Numbers.{decimal}
 use Rattle.words.specs.Bytes.{bytes, tab, feed}
-use Rattle.words.specs.Decimal.{decimal}
 
 -- a field: one tab, and a number
 unfoldable pub field : ℕ → List ℕ

@@ -4,7 +4,7 @@ use crate::words::TAB;
 ghost use mathlib.Core.List.{[], _∷_};
 ghost use Prim.Native.Nat.{_+_, _≤_};
 ghost use lib.ListN.{length};
-ghost use Rattle.words.specs.Decimal.{decimal};
+ghost use Rattle.digits.specs.Numbers.{decimal};
 ghost use Rattle.words.specs.Fields.{field, timeField};
 ghost use Rattle.words.specs.Writer.{Put};
 

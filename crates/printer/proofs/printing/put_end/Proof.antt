@@ -1,8 +1,8 @@
 -- `printer::printing::put_end` meets its contract: a word, three fields and a line feed, one after the other.
 use native.Mathlib.Omega.{arith}
 use Rattle.words.specs.Fields.{ended}
-use Rattle.printer.specs.Printer.{endLine}
 use Rattle.words.proofs.Putting.{put-next, put-within}
+use Rattle.printer.specs.Printer.{endLine}
 use borrow.Author.Needs.{needs}
 use Rattle.printer.proofs.printing.put_end.Statement.{statement}
 use Rattle.printer.proofs.printing.put_end.Tie as tie

@@ -1,8 +1,8 @@
 -- `printer::printing::put_inject` meets its contract: a word, three fields, a time and a line feed, one after the other.
 use native.Mathlib.Omega.{arith}
 use Rattle.words.specs.Fields.{ended}
-use Rattle.printer.specs.Printer.{injectLine}
 use Rattle.words.proofs.Putting.{put-next, put-within}
+use Rattle.printer.specs.Printer.{injectLine}
 use borrow.Author.Needs.{needs}
 use Rattle.printer.proofs.printing.put_inject.Statement.{statement}
 use Rattle.printer.proofs.printing.put_inject.Tie as tie

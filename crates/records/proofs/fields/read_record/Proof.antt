@@ -7,9 +7,9 @@ use native.Mathlib.Omega.{arith}
 use lib.Seq.{length-take-le}
 use borrow.Author.Tests.{not-true, not-false}
 use Rattle.basics.specs.Lists.{padded}
+use Rattle.digits.proofs.Spelling.{number-most}
 use Rattle.records.specs.Records.{goodRecord}
 use Rattle.records.proofs.Places.{index-within}
-use Rattle.records.proofs.Spelling.{number-most}
 use Rattle.records.proofs.Recording.{Walked, wrong-word, walk-begins, walk-short, walk-long, walk-ends, walk-bad, walk-on}
 use borrow.Author.Needs.{needs}
 use Rattle.records.proofs.fields.read_record.Statement.{statement}

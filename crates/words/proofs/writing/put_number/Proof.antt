@@ -1,7 +1,7 @@
 -- `words::writing::put_number` meets its contract: the kit's `decimal` writes the number's digits, which are 20 at most, and the word is copied.
 use mathlib.Core.Path.{_∙_}
 use native.Mathlib.Omega.{arith}
-use Rattle.words.proofs.Decimals.{digits-are, digits-most}
+use Rattle.digits.proofs.Decimals.{digits-are, digits-most}
 use Rattle.words.proofs.Putting.{put-as, put-within}
 use borrow.Author.Needs.{needs}
 use Rattle.words.proofs.writing.put_number.Statement.{statement}

@@ -1,8 +1,8 @@
 -- `words::writing::put_time` meets its contract: a tab, and the word or the number as the time says.
 use mathlib.Core.Path.{_≡_, sym}
 use Prim.Native.Nat.{ℕ}
+use Rattle.digits.specs.Numbers.{decimal}
 use Rattle.words.specs.Bytes.{bytes, tab}
-use Rattle.words.specs.Decimal.{decimal}
 use Rattle.words.specs.Fields.{skippedTime, timeField}
 use mathlib.Core.List.{_∷_}
 use native.Mathlib.Omega.{arith}

@@ -1,12 +1,14 @@
--- Numbers in digits: which fields are numbers, and what they spell.
-use mathlib.Core.Bool.{Bool, true, not}
-use mathlib.Core.List.{List, [], _∷_}
-use Prim.Native.Nat.{ℕ, _+_, _-_, _*_}
-use lib.Dec.{leb, eqb}
+-- Numbers in digits: which fields are numbers, what they spell, and how a number is printed.
+use mathlib.Core.Bool.{Bool, true, false, not}
+use mathlib.Core.List.{List, [], _∷_, _++_}
+use Prim.Native.Nat.{ℕ, zero, suc, _+_, _-_, _*_, _/_, _%_}
+use lib.Dec.{leb, ltb, eqb}
 use lib.ListN.{length, getD}
 use Rattle.basics.specs.Choose.{both, either, choose}
-use Rattle.records.specs.declared.digits.Number.{Number}
-use Rattle.records.specs.declared.digits.Number.the-variants.{Good, Bad}
+use Rattle.digits.specs.declared.digits.Number.{Number}
+use Rattle.digits.specs.declared.digits.Number.the-variants.{Good, Bad}
+
+-- ---- reading
 
 -- a digit, 0 to 9
 unfoldable pub isDigit : ℕ → Bool
@@ -41,3 +43,14 @@ isNumber digits most field = both (isFormed digits field) (leb (valueOf field) m
 -- the number of a field, or that it is none
 unfoldable pub numberOf : ℕ → ℕ → List ℕ → Number
 numberOf digits most field = choose (isNumber digits most field) (Good (valueOf field)) Bad
+
+-- ---- printing
+
+-- the digits of a number, given as many steps as there are digits: below 10 one digit, else those of the tenth and the last
+unfoldable pub decimalWithin : ℕ → ℕ → List ℕ
+decimalWithin zero n = []
+decimalWithin (suc steps) n = elim (ltb n 10) [ true ↦ (48 + n) ∷ [] | false ↦ decimalWithin steps (n / 10) ++ ((48 + n % 10) ∷ []) ]
+
+-- the digits of a number, with no leading zero
+unfoldable pub decimal : ℕ → List ℕ
+decimal n = decimalWithin (suc n) n

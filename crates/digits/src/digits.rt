@@ -1,6 +1,6 @@
 // Numbers in digits, read from a field.
 ghost use mathlib.Core.Path.{_≡_};
-ghost use Rattle.records.specs.Numbers.{isFormed, numberOf};
+ghost use Rattle.digits.specs.Numbers.{isFormed, numberOf};
 
 // The number of a field, or that it is none.
 pub enum Number {

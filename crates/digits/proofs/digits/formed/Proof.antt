@@ -1,4 +1,4 @@
--- `records::digits::formed` meets its contract: behind the tests of the length and of a leading zero, a field is formed where the bytes
+-- `digits::digits::formed` meets its contract: behind the tests of the length and of a leading zero, a field is formed where the bytes
 -- from i on are digits.
 use borrow.Author.Needs.{needs}
 use mathlib.Core.Path.{_≡_, sym, _∙_}
@@ -8,10 +8,10 @@ use mathlib.Core.Logic.{⊎-elim}
 use Prim.Native.Nat.{ℕ, _+_, _-_, _≤_, _<_}
 use native.Mathlib.Omega.{arith}
 use lib.ListN.{length, getD, drop}
-use Rattle.records.specs.Numbers.{isDigit, allDigits, isFormed}
-use Rattle.records.proofs.Spelling.{formed-empty, formed-long, formed-zero, formed-one, formed-more, below-digit, above-digit, within-digit, digits-next, digits-stop, digits-end}
-use Rattle.records.proofs.digits.formed.Statement.{statement}
-use Rattle.records.proofs.digits.formed.Tie as tie
+use Rattle.digits.specs.Numbers.{isDigit, allDigits, isFormed}
+use Rattle.digits.proofs.Spelling.{formed-empty, formed-long, formed-zero, formed-one, formed-more, below-digit, above-digit, within-digit, digits-next, digits-stop, digits-end}
+use Rattle.digits.proofs.digits.formed.Statement.{statement}
+use Rattle.digits.proofs.digits.formed.Tie as tie
 
 -- what is left to see: the bytes from i on are digits just where the field is formed
 record Left (field : List ℕ) (most end i : ℕ) : Type 0 where

@@ -12,8 +12,8 @@ use lib.ListN.{length, getD, drop}
 use lib.Seq.{drop-cons, drop-length}
 use Rattle.basics.specs.Choose.{both}
 use Rattle.basics.proofs.Choose.{both-first, both-second, both-not}
-use Rattle.records.specs.Numbers.{isDigit, allDigits, noLeadingZero, isFormed, valueFrom, valueOf, isNumber, numberOf}
-use Rattle.records.specs.declared.digits.Number.the-variants.{Good, Bad}
+use Rattle.digits.specs.Numbers.{isDigit, allDigits, noLeadingZero, isFormed, valueFrom, valueOf, isNumber, numberOf}
+use Rattle.digits.specs.declared.digits.Number.the-variants.{Good, Bad}
 
 -- ---- `isFormed`
 

@@ -1,4 +1,4 @@
--- `records::digits::read_number` meets its contract: the value so far with the digits from i on spells the field, and since digits more
+-- `digits::digits::read_number` meets its contract: the value so far with the digits from i on spells the field, and since digits more
 -- make no smaller value, a value past the most is no number.
 use mathlib.Core.Path.{_≡_, refl, sym, _∙_, ap}
 use mathlib.Core.List.{List}
@@ -7,12 +7,12 @@ use Prim.Native.Nat.{ℕ, _+_, _-_, _*_, _/_, _≤_, _<_}
 use native.Mathlib.Omega.{arith}
 use lib.ListN.{length, getD, drop}
 use borrow.Author.Tests.{not-true, not-false}
-use Rattle.records.specs.Numbers.{allDigits, isFormed, valueFrom, valueOf, numberOf}
-use Rattle.records.specs.declared.digits.Number.the-variants.{Good}
-use Rattle.records.proofs.Spelling.{formed-digits, digit-low, digits-here, digits-behind, value-next, value-end, value-grows, not-formed, number-above, number-good}
+use Rattle.digits.specs.Numbers.{allDigits, isFormed, valueFrom, valueOf, numberOf}
+use Rattle.digits.specs.declared.digits.Number.the-variants.{Good}
+use Rattle.digits.proofs.Spelling.{formed-digits, digit-low, digits-here, digits-behind, value-next, value-end, value-grows, not-formed, number-above, number-good}
 use borrow.Author.Needs.{needs}
-use Rattle.records.proofs.digits.read_number.Statement.{statement}
-use Rattle.records.proofs.digits.read_number.Tie as tie
+use Rattle.digits.proofs.digits.read_number.Statement.{statement}
+use Rattle.digits.proofs.digits.read_number.Tie as tie
 
 -- the field is formed; the value so far is no more than the most, and with the digits from i on it is the field's
 record Spelt (field : List ℕ) (digits most end value i : ℕ) : Type 0 where
