@@ -3,8 +3,8 @@ use libc::STDIN_FILENO;
 use libc::STDOUT_FILENO;
 use planner::Plan;
 use planner::plan_of;
-use text::Cursor;
-use text::put_piece;
+use printer::Cursor;
+use printer::put_piece;
 
 // The most lines that are printed: the table line, 1,024 packets and the end line.
 const LINES: usize = 1026;

@@ -7,8 +7,8 @@ use lib.ListN.{take}
 use Rattle.model.specs.Answers.{refusedBy}
 use Rattle.model.specs.declared.answers.Answer.{Answer}
 use Rattle.search.specs.Answering.{answerOf, tableAfter}
-use Rattle.text.specs.Reader.{inputOf}
-use Rattle.text.specs.declared.reading.Input.{Input}
+use Rattle.reader.specs.Reader.{inputOf}
+use Rattle.reader.specs.declared.reading.Input.{Input}
 use Rattle.planner.specs.Numbered.{packetsFor, planFor}
 use Rattle.planner.specs.Plan.{judgedOf, answerTo, tableTo, packetsTo, planOf, planTable}
 

@@ -11,9 +11,9 @@ use Rattle.model.specs.declared.answers.Refusal.{Refusal}
 use Rattle.model.specs.declared.flows.Mesh.{Mesh}
 use Rattle.model.proofs.Order.{refuse-none, refuse-by, or-stays, or-none}
 use Rattle.search.specs.Answering.{settingsRefusal, badTable, searchRefusal, answerOf}
-use Rattle.text.specs.Printer.{piecesOf}
-use Rattle.text.specs.declared.printing.Cursor.the-variants.{First}
-use Rattle.text.proofs.Pieces.{all-pieces}
+use Rattle.printer.specs.Printer.{piecesOf}
+use Rattle.printer.specs.declared.printing.Cursor.the-variants.{First}
+use Rattle.printer.proofs.Pieces.{all-pieces}
 use Rattle.planner.specs.Plan.{printedOf}
 use Rattle.planner.specs.declared.numbering.Plan.{Plan}
 

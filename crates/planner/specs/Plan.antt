@@ -7,9 +7,9 @@ use Rattle.packet.specs.Packet.{Packet}
 use Rattle.model.specs.Answers.{refusedBy}
 use Rattle.model.specs.declared.answers.Answer.{Answer}
 use Rattle.search.specs.Answering.{answerOf, tableAfter}
-use Rattle.text.specs.Reader.{inputOf}
-use Rattle.text.specs.Printer.{outputOf}
-use Rattle.text.specs.declared.reading.Input.{Input}
+use Rattle.reader.specs.Reader.{inputOf}
+use Rattle.printer.specs.Printer.{outputOf}
+use Rattle.reader.specs.declared.reading.Input.{Input}
 use Rattle.planner.specs.Numbered.{packetsFor, planFor}
 use Rattle.planner.specs.declared.numbering.Plan.{Plan}
 

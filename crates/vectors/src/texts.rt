@@ -8,8 +8,8 @@ use crate::stream::stands_at;
 use crate::vector::Outcome;
 use planner::Plan;
 use planner::plan_of;
-use text::Cursor;
-use text::put_piece;
+use printer::Cursor;
+use printer::put_piece;
 
 // The most lines of an answer: the table line, 1,024 packets and the end line.
 const LINES: usize = 1026;

@@ -5,7 +5,7 @@ use mathlib.Core.Path.{_≡_}
 use Prim.Native.Nat.{_-_, _≤_}
 use native.Mathlib.Omega.{arith}
 use lib.ListN.{length}
-use Rattle.text.proofs.Pieces.{piece-fits}
+use Rattle.printer.proofs.Pieces.{piece-fits}
 use borrow.Author.Needs.{needs}
 use Rattle.borewagon.proofs.print.Statement.{statement}
 use Rattle.borewagon.proofs.print.Tie as tie

@@ -4,7 +4,7 @@ use lib.Seq.{length-take-le}
 use Prim.Native.Nat.{_-_, _*_, _≤_}
 use native.Mathlib.Omega.{arith}
 use lib.ListN.{length}
-use Rattle.text.proofs.Pieces.{piece-fits}
+use Rattle.printer.proofs.Pieces.{piece-fits}
 use borrow.Author.Needs.{needs}
 use Rattle.vectors.proofs.texts.walked.Statement.{statement}
 use Rattle.vectors.proofs.texts.walked.Tie as tie

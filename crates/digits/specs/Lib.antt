@@ -1,0 +1,2 @@
+-- Numbers in digits.
+pub mod Numbers

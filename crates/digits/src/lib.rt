@@ -1,0 +1,5 @@
+// Numbers in digits.
+mod digits;
+
+pub use digits::Number;
+pub use digits::read_number;

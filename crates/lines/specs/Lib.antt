@@ -1,0 +1,3 @@
+-- The lines of a text, and the steps of the code that reads them.
+pub mod Form
+pub mod Steps

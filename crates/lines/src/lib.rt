@@ -1,0 +1,9 @@
+// The lines of a text: a line taken from its place, and the flow lines.
+mod flows;
+mod taking;
+
+pub use flows::Lines;
+pub use flows::no_flows;
+pub use flows::read_flows;
+pub use taking::Line;
+pub use taking::read_line;

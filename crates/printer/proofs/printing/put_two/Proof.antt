@@ -1,0 +1,46 @@
+-- `printer::printing::put_two` meets its contract: a word, two fields and a line feed, one after the other.
+use native.Mathlib.Omega.{arith}
+use Rattle.words.specs.Fields.{ended}
+use Rattle.words.proofs.Putting.{put-next, put-within}
+use borrow.Author.Needs.{needs}
+use Rattle.printer.proofs.printing.put_two.Statement.{statement}
+use Rattle.printer.proofs.printing.put_two.Tie as tie
+
+put-word-requires : tie.Need-put-word-requires
+put-word-requires c κs = search needs
+
+put-field-requires : tie.Need-put-field-requires
+put-field-requires c κs = search needs
+
+put-field-requires-2 : tie.Need-put-field-requires-2
+put-field-requires-2 c κs = search needs
+
+put-byte-requires : tie.Need-put-byte-requires
+put-byte-requires c κs = search needs
+
+same-length : tie.Need-same-length
+same-length c = search needs
+
+returns : tie.Need-returns
+unfolding ended
+returns c =
+    let at-put-byte = c .before .before in
+    let at-put-field2 = at-put-byte .before .before .before .before in
+    let at-put-field = at-put-field2 .before .before .before .before in
+    let at-put-word = at-put-field .before .before .before .before in
+    let start = at-put-word .before .before .before .before in
+    let line2 = put-next _ 21 _ _ _ _ _ _ _ _ (omega (arith, start .pre)) (at-put-word .put-word .ensures) (at-put-field .put-field .ensures) in
+    let line3 = put-next _ 21 _ _ _ _ _ _ _ _ (omega (arith, start .pre)) line2 (at-put-field2 .put-field2 .ensures) in
+    let line4 = put-next _ 1 _ _ _ _ _ _ _ _ (omega (arith, start .pre)) line3 (at-put-byte .put-byte .ensures) in
+    put-within _ 96 _ _ _ _ _ (omega (arith, start .pre)) line4
+
+pub put-two-spec : {M : Type 1} → statement M
+put-two-spec =
+    tie.close
+    (tie.spec
+    put-word-requires
+    put-field-requires
+    put-field-requires-2
+    put-byte-requires
+    same-length
+    returns)

@@ -1,0 +1,2 @@
+-- The text that is printed.
+pub mod Printer

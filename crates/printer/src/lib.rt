@@ -1,0 +1,7 @@
+// The printer.
+mod printing;
+
+pub use printing::Cursor;
+pub use printing::LINE;
+pub use printing::Piece;
+pub use printing::put_piece;

@@ -1,0 +1,6 @@
+// The text reader.
+mod reading;
+
+pub use reading::Input;
+pub use reading::LIMIT;
+pub use reading::read;

@@ -1,0 +1,2 @@
+-- Lines and fields.
+pub mod Records
