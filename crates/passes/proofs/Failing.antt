@@ -14,7 +14,7 @@ use Rattle.placing.specs.Order.{occurs}
 use Rattle.placing.specs.Lists.{shifted}
 use Rattle.placing.specs.Held.{Load}
 use Rattle.placing.proofs.Shifting.{shifted-length}
-use Rattle.placing.proofs.Ordering.{occurs-append, occurs-same}
+use Rattle.placing.proofs.Ordering.{occurs-append}
 use Rattle.placing.specs.declared.sweep.Placed.{Placed}
 use Rattle.placing.specs.declared.sweep.Placed.the-variants.{Nowhere}
 use Rattle.passes.specs.Pass.{raised, passFrom}

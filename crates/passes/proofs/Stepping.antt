@@ -1,7 +1,7 @@
 -- One step of a pass as the code takes it: what it asks of placing, and what it leaves where the packet is placed.
 -- In order: the next packet; what is known of it; then the packet is placed. Where no time will do: proofs/Failing.antt.
 use mathlib.Core.Path.{_≡_, refl, sym, _∙_, ap, ap₂, subst}
-use mathlib.Core.Bool.{true, false, false≢true}
+use mathlib.Core.Bool.{true, false}
 use mathlib.Core.List.{List, _∷_}
 use Prim.Native.Nat.{ℕ, _+_, _≤_, _<_}
 use native.Mathlib.Decide.{ℕ-discrete}
@@ -15,19 +15,17 @@ use Rattle.packet.specs.Packet.{Packet}
 use Rattle.packet.specs.Table.{packetAt}
 use Rattle.placing.specs.Placing.{placed, takenOf, placingOf}
 use Rattle.placing.specs.Order.{occurs}
-use Rattle.placing.specs.Lists.{shifted}
 use Rattle.placing.specs.Keep.{busyWith}
 use Rattle.placing.specs.Held.{Load, flowAt, Covers, Place}
-use Rattle.placing.proofs.Shifting.{shifted-length}
-use Rattle.placing.proofs.Ordering.{occurs-append, occurs-same}
+use Rattle.placing.proofs.Ordering.{occurs-same}
 use Rattle.placing.proofs.Covering.{placed-other, Taking}
 use Rattle.placing.proofs.Growing.{kept-more, count-more, covers-more}
 use Rattle.placing.specs.declared.sweep.Placed.{Placed}
 use Rattle.placing.specs.declared.sweep.Placed.the-variants.{At}
 use Rattle.passes.specs.Pass.{raised, passFrom}
 use Rattle.passes.specs.State.{State, outcome, spanAt, Ready, Going, Settles, Stepped}
-use Rattle.passes.proofs.Parts.{rest-next, taken-more, list-moved, list-without, taken-moved, rest-moved, list-occurs, each-moved}
-use Rattle.passes.proofs.PassSteps.{pass-placed, pass-broken, pass-skipped, Taken, placing-at, placing-nowhere, slots-few, time-latest}
+use Rattle.passes.proofs.Parts.{rest-next, taken-more, list-occurs}
+use Rattle.passes.proofs.PassSteps.{pass-placed, Taken, placing-at, slots-few, time-latest}
 
 -- a pass that goes on leaves what the definition says
 pub outcome-on : (ps : List Packet) (f g : ℕ) (s : State) → s .again ≡ false

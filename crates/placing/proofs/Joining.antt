@@ -5,12 +5,11 @@ use mathlib.Core.List.{List}
 use Prim.Native.Nat.{ℕ, _-_, _≤_, _<_}
 use native.Mathlib.Omega.{arith}
 use lib.Dec.{ltb, eqb}
-use lib.ListN.{getD}
 use borrow.Author.Tests.{ltb-true, eqb-true}
 use Rattle.basics.proofs.Choose.{both-first, both-second}
-use Rattle.placing.specs.Busy.{pathIn, Busy, entry, startOf, endOf, flowOf, Kept, Paths}
-use Rattle.placing.specs.Keep.{samePath, placeFor, follows, lengthened, withOwn, busyWith, Follows, Keep}
-use Rattle.placing.proofs.Halving.{after-within, after-below}
+use Rattle.placing.specs.Busy.{pathIn, Busy, startOf, endOf, flowOf}
+use Rattle.placing.specs.Keep.{placeFor, follows, lengthened, withOwn, busyWith, Follows, Keep}
+use Rattle.placing.proofs.Halving.{after-within}
 use Rattle.placing.proofs.Paths.{paths-same}
 
 module _ {lens links : List ℕ} {b : Busy} {g time end : ℕ} (asks : Keep lens links b g time end) where

@@ -1,6 +1,6 @@
 -- A packet makes a stretch of its own: the stretches stay kept, and are what the table with one more time holds.
 -- In order: what stands where in the list with one more; what each stretch then is; that they are kept in order; and what they hold.
-use mathlib.Core.Path.{_≡_, refl, sym, _∙_, ap, subst}
+use mathlib.Core.Path.{_≡_, sym, _∙_, ap, subst}
 use mathlib.Core.Bool.{true}
 use mathlib.Core.List.{List}
 use Prim.Native.Nat.{ℕ, _+_, _-_, _≤_, _<_}

@@ -1,5 +1,4 @@
 -- The busy stretches with one more packet: it makes the stretch longer that ends where it starts, or one of its own.
-use mathlib.Core.Path.{_≡_}
 use mathlib.Core.Bool.{Bool}
 use mathlib.Core.List.{List}
 use Prim.Native.Nat.{ℕ, _+_, _-_, _*_, _≤_, _<_}

@@ -1,7 +1,7 @@
 -- The slacks as the code stores them are those of the packets, so the list is in order of least slack.
 use mathlib.Core.Path.{_≡_, refl, _∙_, ap, subst, fun-ext}
 use mathlib.Core.List.{List}
-use Prim.Native.Nat.{ℕ, _+_, _≤_, _<_}
+use Prim.Native.Nat.{ℕ, _+_, _<_}
 use native.Mathlib.Nat.{lt-of-not-le}
 use native.Mathlib.Decide.{decLe, ℕ-discrete}
 use native.Mathlib.Omega.{arith}

@@ -1,5 +1,4 @@
 -- `follows_on` looks at the stretch before the place, if there is one: where it ends, then its path.
-use Prim.Native.Nat.{_-_, _<_}
 use mathlib.Core.Path.{refl, sym, _∙_}
 use native.Mathlib.Omega.{arith}
 use borrow.Author.Tests.{lt-ltb, le-ltb, ne-eqb, eq-eqb}

@@ -4,7 +4,7 @@ use native.Mathlib.Nat.{div-le-self}
 use mathlib.Core.Path.{refl, _∙_}
 use Prim.Native.Nat.{_-_}
 use lib.ListN.{getD}
-use Rattle.placing.specs.Held.{loadOf, flowAt}
+use Rattle.placing.specs.Held.{flowAt}
 use Rattle.placing.proofs.Bridging.{placing-same}
 use borrow.Author.Needs.{needs}
 use Rattle.placing.proofs.sweep.place.Statement.{statement}
