@@ -1,6 +1,6 @@
 -- Laws of sums over the numbers below n.
--- In order: a part with all before it is within the sum, so sums grow, and each part is at most the whole; then the numbers
--- below a sum, each of which lies in a part, at an offset from the part's start.
+-- In order: a part with all before it is within the sum, so each part is at most the whole; then the numbers below a sum, each of which
+-- lies in a part, at an offset from the part's start.
 use mathlib.Core.Path.{_≡_}
 use Prim.Native.Nat.{ℕ, zero, suc, _+_, _-_, _≤_, _<_}
 use native.Mathlib.Nat.{le-antisymm, lt-of-not-le, le-of-suc-le-suc}
@@ -19,14 +19,6 @@ module _ (f : ℕ → ℕ) where
       elim (decLe n i) [
         | yes a ↦ rw (le-antisymm (le-of-suc-le-suc h) a) (omega arith)
         | no a ↦ omega (arith, sum-part i n (lt-of-not-le a))
-      ]
-
-  -- a sum over more numbers is no less
-  pub sum-more : (m n : ℕ) → m ≤ n → sumOf f m ≤ sumOf f n
-  sum-more m n h =
-      elim (decLe n m) [
-        | yes a ↦ rw (le-antisymm h a) (omega arith)
-        | no a ↦ omega (arith, sum-part m n (lt-of-not-le a))
       ]
 
   -- each part is at most the whole

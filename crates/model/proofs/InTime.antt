@@ -66,11 +66,6 @@ module _ (numbers : List ℕ) (timed : Timed numbers) where
       go zero e = absurd (omega (arith, hyper-low, ap (λ (n : ℕ). n * periodOf numbers f) e, hyper-whole f h))
       go (suc n) e = omega arith
 
-  -- there is a packet
-  pub packets-low : 0 < packetsIn numbers
-  unfolding packetsIn
-  packets-low = omega (arith, turns-low 0 (timed .list .flows-low), part-whole (turnsIn numbers) 0 (flowsIn numbers) (timed .list .flows-low))
-
 -- ---- the packets
 
 -- a packet of a model that is not refused

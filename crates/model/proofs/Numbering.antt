@@ -3,7 +3,7 @@
 -- number, and that every packet of the list is one of those.
 use mathlib.Core.Path.{_≡_, refl, sym, _∙_, ap, ap₂}
 use mathlib.Core.List.{List, _++_, append-nil, append-assoc}
-use Prim.Native.Nat.{ℕ, zero, suc, _+_, _-_, _≤_, _<_}
+use Prim.Native.Nat.{ℕ, zero, suc, _+_, _-_, _<_}
 use native.Mathlib.Nat.{add-zero, add-suc, suc-add, zero-add}
 use native.Mathlib.Omega.{arith}
 use native.Mathlib.Numerals.{add-one}
@@ -12,7 +12,7 @@ use lib.Seq.{getD-append-add}
 use Rattle.basics.specs.Lists.{tabulate}
 use Rattle.basics.specs.Sums.{sumOf}
 use Rattle.basics.proofs.Lists.{tabulate-length, tabulate-at}
-use Rattle.basics.proofs.Sums.{sum-part, sum-more, in-part}
+use Rattle.basics.proofs.Sums.{sum-part, in-part}
 use Rattle.packet.specs.Packet.{Packet, absent}
 use Rattle.packet.specs.Table.{packetAt}
 use Rattle.model.specs.Flows.{flowsIn}
@@ -28,11 +28,6 @@ pub record Numbered (numbers : List ℕ) (p f k : ℕ) : Type 0 where
   pub flow-in : f < flowsIn numbers
   pub turn-in : k < turnsIn numbers f
   pub number : p ≡ firstOf numbers f + k
-
--- every flow's first number is at most the number of packets
-pub first-in : (numbers : List ℕ) (f : ℕ) → f ≤ flowsIn numbers → firstOf numbers f ≤ packetsIn numbers
-unfolding packetsIn
-first-in numbers f h = sum-more (turnsIn numbers) f (flowsIn numbers) h
 
 -- every packet's number is below it
 pub number-in : {numbers : List ℕ} {p f k : ℕ} → Numbered numbers p f k → p < packetsIn numbers

@@ -14,7 +14,7 @@ use lib.ListN.{length}
 use borrow.Author.Tests.{ltb-true, lt-ltb, not-true, not-false}
 use Rattle.basics.specs.Choose.{both}
 use Rattle.basics.specs.First.{first, some}
-use Rattle.basics.proofs.First.{first-passes, first-least, some-at, some-none, some-first, none-passes}
+use Rattle.basics.proofs.First.{first-passes, first-least, some-none, some-first, none-passes}
 use Rattle.basics.proofs.Choose.{both-pass, both-first, both-second}
 use Rattle.packet.specs.Packet.{Packet, mayStart, collide}
 use Rattle.packet.specs.Table.{packetAt, timeAt, outside, meets, meetsHigher, passes}
@@ -57,11 +57,6 @@ module _ (ps : List Packet) (table : List ℕ) where
       → collide (packetAt ps a) (timeAt table a) (packetAt ps b) (timeAt table b) ≡ true
   unfolding meets
   meets-collide a b e = both-second (ltb a b) _ e
-
-  -- a packet that meets a listed one meets a higher one
-  pub higher-at : (a b : ℕ) → b < length ps → meets ps table a b ≡ true → meetsHigher ps table a ≡ true
-  unfolding meetsHigher
-  higher-at a b h e = some-at (meets ps table a) (length ps) b h e
 
   -- a packet that meets no listed one meets no higher one
   pub higher-none : (a : ℕ) → ((b : ℕ) → b < length ps → meets ps table a b ≡ false) → meetsHigher ps table a ≡ false

@@ -3,10 +3,12 @@ use mathlib.Core.Path.{_≡_, refl, sym, _∙_, ap, ap₂}
 use mathlib.Core.Bool.{true, false, false≢true}
 use mathlib.Core.List.{List}
 use Prim.Native.Nat.{ℕ, _+_, _≤_, _<_}
-use native.Mathlib.Decide.{ℕ-discrete}
+use native.Mathlib.Nat.{lt-of-not-le}
+use native.Mathlib.Decide.{decLe, ℕ-discrete}
 use native.Mathlib.Omega.{arith}
 use lib.ListN.{length, getD, set, take, length-set}
 use lib.Seq.{slice, getD-set-same, getD-set-other, take-set-lt}
+use borrow.Author.Tests.{lt-ltb, le-ltb}
 use Rattle.packet.specs.Packet.{Packet}
 use Rattle.packet.specs.Table.{packetAt}
 use Rattle.placing.specs.Placing.{placingOf}
@@ -18,7 +20,8 @@ use Rattle.placing.proofs.Ordering.{occurs-append}
 use Rattle.placing.specs.declared.sweep.Placed.{Placed}
 use Rattle.placing.specs.declared.sweep.Placed.the-variants.{Nowhere}
 use Rattle.passes.specs.Pass.{raised, passFrom}
-use Rattle.passes.specs.State.{State, outcome, Ready, Carried, Going, Stepped}
+use Rattle.passes.specs.State.{State, stateOf, outcome, turnedAway, Ready, Carried, Going, Stepped}
+use Rattle.passes.specs.declared.walk.Walk.{Walk}
 use Rattle.passes.proofs.Parts.{list-moved, list-without, taken-moved, rest-moved, list-occurs, each-moved}
 use Rattle.passes.proofs.Stepping.{nextOf, long, next-in, list-once, behind, rises, here, latest-small}
 use Rattle.passes.proofs.PassSteps.{pass-broken, pass-skipped, placing-nowhere, slots-few}
@@ -71,7 +74,7 @@ module _ {ps : List Packet} {load : Load} {release due : List ℕ} {f g : ℕ} (
       )
 
   -- below G: a new pass begins with it at the front
-  pub after-failed : raised (s .fails) (nextOf s) < g → Stepped ps (load .lens) (load .links) f g s record {
+  after-failed : raised (s .fails) (nextOf s) < g → Stepped ps (load .lens) (load .links) f g s record {
     order = fronted;
     fails = failed;
     times = s .times;
@@ -136,7 +139,7 @@ module _ {ps : List Packet} {load : Load} {release due : List ℕ} {f g : ℕ} (
   }
 
   -- at G: it is skipped, and the pass goes on
-  pub after-skipped : g ≤ raised (s .fails) (nextOf s) → Stepped ps (load .lens) (load .links) f g s record {
+  after-skipped : g ≤ raised (s .fails) (nextOf s) → Stepped ps (load .lens) (load .links) f g s record {
     order = fronted;
     fails = failed;
     times = s .times;
@@ -173,3 +176,18 @@ module _ {ps : List Packet} {load : Load} {release due : List ℕ} {f g : ℕ} (
     };
     taken = λ _. refl;
   }
+
+-- turned away: one of the two
+pub after-turned : {ps : List Packet} {load : Load} {release due : List ℕ} {f g : ℕ} → (ready : Ready ps load release due f g)
+    → {order fails times by from until who : List ℕ} {w : Walk}
+    → (going : Going ps (load .lens) (load .links) g (stateOf order fails times by from until who w)) → (more : w .at < length ps)
+    → {r : Placed} → r ≡ placingOf ps f (take (length ps) times) (getD order (w .at) 0) → {m : ℕ} → r ≡ Nowhere m
+    → Stepped ps (load .lens) (load .links) f g (stateOf order fails times by from until who w)
+    (stateOf (shifted order (w .base) (w .at) (getD order (w .at) 0)) (set fails (getD order (w .at) 0) (raised fails (getD order (w .at) 0))) times by from
+    until who (turnedAway (raised fails (getD order (w .at) 0)) w m g))
+unfolding turnedAway
+after-turned {g = g} ready {order} {fails} {w = w} going more placing nowhere =
+    elim (decLe g (raised fails (getD order (w .at) 0))) [
+      | yes h ↦ rw (le-ltb (raised fails (getD order (w .at) 0)) g h) (after-skipped ready going more placing nowhere h)
+      | no h ↦ rw (lt-ltb (raised fails (getD order (w .at) 0)) g (lt-of-not-le h)) (after-failed ready going more placing nowhere (lt-of-not-le h))
+    ]

@@ -3,12 +3,15 @@ use mathlib.Core.Path.{_≡_}
 use mathlib.Core.Bool.{Bool, true, false}
 use mathlib.Core.List.{List}
 use Prim.Native.Nat.{ℕ, _+_, _*_, _≤_, _<_}
+use lib.Dec.{ltb}
 use lib.ListN.{length, getD, take}
 use lib.Seq.{slice}
 use Rattle.time.specs.Hyper.{most}
 use Rattle.packet.specs.Packet.{Packet}
+use Rattle.basics.specs.Choose.{choose}
 use Rattle.placing.specs.Placing.{placed}
 use Rattle.placing.specs.Order.{occurs}
+use Rattle.placing.specs.Lists.{Room}
 use Rattle.placing.specs.Busy.{Busy, busyOf, Kept}
 use Rattle.placing.specs.Keep.{Keep}
 use Rattle.placing.specs.Held.{Load, flowAt, Held, Loaded, Covers}
@@ -105,6 +108,18 @@ pub record Raises (fails : List ℕ) (p : ℕ) : Type 0 where
   pub long : length fails ≡ 1024
   pub within : p < 1024
   pub low : getD fails p 0 ≤ 16
+
+-- where a pass stands once a packet is turned away with such a fail count: below G it is broken off, else the packet is skipped
+unfoldable pub turnedAway : ℕ → Walk → ℕ → ℕ → Walk
+turnedAway fail w tries g =
+    choose (ltb fail g) record { base = w .base; at = w .at; extent = w .extent; tries = w .tries + tries; again = true }
+    record { base = w .base + 1; at = w .at + 1; extent = w .extent; tries = w .tries + tries; again = false }
+
+-- what turning a packet away asks: its fail count may rise, it may go to the front, and the tries are not too many
+pub record TurnsAway (order fails : List ℕ) (w : Walk) (packet tries : ℕ) : Type 0 where
+  pub raises : Raises fails packet
+  pub room : Room order (w .base) (w .at)
+  pub bounded : w .tries + tries ≤ 1024 * 33554432
 
 -- what a step asks: some packets that the arrays hold, a pass that goes on, and a packet to be taken
 pub record Steps (load : Load) (release due : List ℕ) (f g : ℕ) (s : State) : Type 0 where

@@ -9,11 +9,12 @@ ghost use mathlib.Core.List.{List};
 ghost use Prim.Native.Nat.{_+_, _<_};
 ghost use lib.ListN.{length, set};
 ghost use Rattle.packet.specs.Packet.{Packet};
+ghost use Rattle.placing.specs.Lists.{shifted};
 ghost use Rattle.placing.specs.Busy.{busyOf};
 ghost use Rattle.placing.specs.Keep.{busyWith};
 ghost use Rattle.placing.specs.Held.{loadOf, flowAt};
 ghost use Rattle.passes.specs.Pass.{raised};
-ghost use Rattle.passes.specs.State.{stateOf, spanAt, Ready, Carried, Going, Settles, Raises, Steps, Stepped, Runs, Ran};
+ghost use Rattle.passes.specs.State.{stateOf, spanAt, Ready, Carried, Going, Settles, Raises, turnedAway, TurnsAway, Steps, Stepped, Runs, Ran};
 
 // Where a pass stands: the list is the order from base on, the packets before at are taken, and those placed hold stretches of such an
 // extent. Again: the pass was broken off, and a new one begins.
@@ -59,8 +60,43 @@ fn raise(fails: &mut [u8; 1024], p: usize) -> u8
     fail
 }
 
-// Takes the next packet. Placed, it stays in the list. Else its fail count rises and it goes to the front: below the threshold a new
-// pass begins there, at the threshold the list begins after it, and it is skipped.
+// No time will do for the next packet: its fail count rises and it goes to the front. Below the threshold a new pass begins there; at
+// the threshold the list begins after it, and it is skipped.
+fn turn_away(
+    w: Walk,
+    order: &mut [u16; 1024],
+    fails: &mut [u8; 1024],
+    packet: u16,
+    tries: u32,
+    threshold: u32,
+) -> Walk
+    requires { ⌜ TurnsAway (now order) (now fails) w packet tries ⌝ }
+    ensures { λ r. ⌜ (r ≡ turnedAway (raised (now (fails .entry)) packet) w tries threshold) × (now (order .exit) ≡ shifted (now (order .entry)) (w .base) (w .at) packet) × (now (fails .exit) ≡ set (now (fails .entry)) packet (raised (now (fails .entry)) packet)) ⌝ }
+{
+    let base = w.base;
+    let at = w.at;
+    let extent = w.extent;
+    let fail = raise(fails, packet as usize);
+    put_in(order, base, at, packet);
+    if (fail as u32) < threshold {
+        return Walk {
+            base,
+            at,
+            extent,
+            tries: w.tries + tries as u64,
+            again: true,
+        };
+    }
+    Walk {
+        base: base + 1,
+        at: at + 1,
+        extent,
+        tries: w.tries + tries as u64,
+        again: false,
+    }
+}
+
+// Takes the next packet. Placed, it stays in the list; else it is turned away.
 fn step(
     w: Walk,
     order: &mut [u16; 1024],
@@ -82,7 +118,6 @@ fn step(
     requires { ⌜ Steps (loadOf (now flow) (now occupancy) (now lens) (now links)) (now release) (now due) pruning threshold (stateOf (now order) (now fails) (now times) (now by) (now from) (now until) (now who) w) ⌝ }
     ensures { λ r. ⌜ ((ps : List Packet) → Ready ps (loadOf (now (flow .entry)) (now (occupancy .entry)) (now (lens .entry)) (now (links .entry))) (now (release .entry)) (now (due .entry)) pruning threshold → Going ps (now (lens .entry)) (now (links .entry)) threshold (stateOf (now (order .entry)) (now (fails .entry)) (now (times .entry)) (now (by .entry)) (now (from .entry)) (now (until .entry)) (now (who .entry)) w) → w .at < length ps → Stepped ps (now (lens .entry)) (now (links .entry)) pruning threshold (stateOf (now (order .entry)) (now (fails .entry)) (now (times .entry)) (now (by .entry)) (now (from .entry)) (now (until .entry)) (now (who .entry)) w) (stateOf (now (order .exit)) (now (fails .exit)) (now (times .exit)) (now (by .exit)) (now (from .exit)) (now (until .exit)) (now (who .exit)) r)) ⌝ }
 {
-    let base = w.base;
     let at = w.at;
     let extent = w.extent;
     let packet = order[at];
@@ -119,33 +154,14 @@ fn step(
                 time,
             );
             Walk {
-                base,
+                base: w.base,
                 at: at + 1,
                 extent,
                 tries: w.tries + tries as u64,
                 again: false,
             }
         }
-        Placed::Nowhere { tries } => {
-            let fail = raise(fails, p);
-            put_in(order, base, at, packet);
-            if (fail as u32) < threshold {
-                return Walk {
-                    base,
-                    at,
-                    extent,
-                    tries: w.tries + tries as u64,
-                    again: true,
-                };
-            }
-            Walk {
-                base: base + 1,
-                at: at + 1,
-                extent,
-                tries: w.tries + tries as u64,
-                again: false,
-            }
-        }
+        Placed::Nowhere { tries } => turn_away(w, order, fails, packet, tries, threshold),
     }
 }
 

@@ -1,13 +1,12 @@
 -- Laws of the text piece by piece: what the printer answers at each cursor; then that the pieces, one after the other, are the whole text.
 use mathlib.Core.Path.{_≡_, refl, sym, _∙_, ap}
-use mathlib.Core.Bool.{Bool, true, false, false≢true}
+use mathlib.Core.Bool.{Bool, true, false}
 use mathlib.Core.List.{List, [], _++_, append-assoc, append-nil}
 use Prim.Native.Nat.{ℕ, zero, suc, _+_, _-_, _≤_, _<_}
 use native.Mathlib.Omega.{arith}
 use borrow.Author.Tests.{lt-ltb, le-ltb, ltb-true, ltb-false}
 use lib.Dec.{ltb}
-use lib.ListN.{length, getD, take, drop, length-append}
-use lib.Seq.{take-at}
+use lib.ListN.{length, getD, drop, length-append}
 use Rattle.model.specs.declared.answers.Answer.{Answer}
 use Rattle.words.specs.Writer.{Put, inFront}
 use Rattle.words.proofs.Putting.{put-front}
@@ -135,13 +134,6 @@ module _ (answer : Answer) (table flows turns : List ℕ) where
       go false e = rw e (omega arith)
   pieces-fewer Done = omega arith
 
-  -- before the end some are left
-  pub some-left : (cursor : Cursor) → isDone cursor ≡ false → 0 < piecesLeft answer cursor
-  unfolding piecesLeft isDone
-  some-left First e = omega arith
-  some-left (Packet p) e = omega arith
-  some-left Done e = absurd (false≢true (sym e))
-
   -- nothing is left only behind all lines
   none-left : (cursor : Cursor) → piecesLeft answer cursor ≤ 0 → restOf answer table flows turns cursor ≡ []
   unfolding piecesLeft restOf
@@ -178,26 +170,3 @@ module _ (answer : Answer) (table flows turns before after : List ℕ) (cursor :
   piece-fits =
       let text = pieceIn (length before) answer table flows turns cursor in
       omega (arith, piece-length, ap length (p .buffer-is), length-append text (drop (length text) before))
-
-  -- a buffer with room shows the line at the cursor
-  pub piece-shown : longest ≤ length before → take (piece .len) after ≡ pieceAt answer table flows turns cursor
-  unfolding pieceIn inFront
-  piece-shown h =
-      ap (take (piece .len)) (p .buffer-is)
-      ∙ take-at (pieceIn (length before) answer table flows turns cursor) (drop (length (pieceIn (length before) answer table flows turns cursor)) before)
-      (piece .len) (sym piece-length)
-      ∙ rw (le-ltb (length before) longest h)
-
-  -- and the cursor behind it
-  pub piece-next : longest ≤ length before → piece .next ≡ nextOf answer cursor
-  unfolding pieceOf nextIn
-  piece-next h = ap (λ (x : Piece). x .next) (p .answer-is) ∙ rw (le-ltb (length before) longest h)
-
-  -- where it is not done, fewer pieces are left behind it
-  pub piece-falls : longest ≤ length before → piece .done ≡ false → piecesLeft answer (piece .next) < piecesLeft answer cursor
-  unfolding pieceOf
-  piece-falls h d =
-      let next = piece-next h in
-      let left = some-left answer table flows turns (piece .next)
-      (ap isDone (ap (λ (x : Piece). x .next) (p .answer-is)) ∙ sym (ap (λ (x : Piece). x .done) (p .answer-is)) ∙ d) in
-      omega (arith, left, pieces-fewer answer table flows turns cursor, ap (piecesLeft answer) next)
