@@ -11,7 +11,7 @@ ghost use Prim.Native.Nat.{_+_, _≤_, _<_};
 ghost use Rattle.model.specs.Fair.{Fair, Next, Room, Timed};
 ghost use mathlib.Core.List.{[]};
 ghost use Rattle.model.specs.Packets.{hyperIn};
-ghost use Rattle.model.specs.Arrays.{noFlows, flowsUpTo, arraysOf, withOne, withTurns, modelOf};
+ghost use Rattle.model.specs.Arrays.{noFlows, flowsUpTo, arraysOf, withTurns, modelOf};
 
 // The flows: period, deadline, occupancy and path of each of the first count; what follows them is 0.
 pub struct Flows {
@@ -54,19 +54,6 @@ fn with_flow(flows: Flows, mesh: Mesh, numbers: &[u32]) -> Flows
     next
 }
 
-// The packets with one more.
-fn with_one(packets: Packets, flow: u16, release: u32) -> Packets
-    requires { ⌜ packets .count < 1024 ⌝ }
-    ensures { λ r. ⌜ r ≡ withOne packets flow release ⌝ }
-{
-    let at = packets.count;
-    let mut next = packets;
-    next.flow[at] = flow;
-    next.release[at] = release;
-    next.count = at + 1;
-    next
-}
-
 // The packets with those of one more flow: so many, a period apart.
 fn with_turns(packets: Packets, flow: u16, period: u32, turns: u32) -> Packets
     requires { ⌜ Room packets period turns ⌝ }
@@ -74,8 +61,10 @@ fn with_turns(packets: Packets, flow: u16, period: u32, turns: u32) -> Packets
 {
     let mut next = packets;
     for k in 0..turns {
-        let more = with_one(next, flow, k * period);
-        next = more;
+        let at = next.count;
+        next.flow[at] = flow;
+        next.release[at] = k * period;
+        next.count = at + 1;
     }
     next
 }

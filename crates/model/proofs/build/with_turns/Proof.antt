@@ -1,10 +1,10 @@
 -- `with_turns` adds one packet of its definition in each turn.
 use native.Mathlib.Nat.{mul-le-mul-right, suc-mul}
-use Rattle.model.proofs.Filling.{Turning, turning-none, turning-next}
-use mathlib.Core.Path.{_≡_}
+use mathlib.Core.Path.{_≡_, refl}
 use native.Mathlib.Omega.{arith}
 use Prim.Native.Nat.{_-_}
-use Rattle.model.specs.Arrays.{withTurns}
+use Rattle.model.specs.Arrays.{withOne, withTurns}
+use Rattle.model.proofs.Filling.{Turning, turning-none, turning-next}
 use borrow.Author.Needs.{needs}
 use Rattle.model.proofs.build.with_turns.Statement.{statement}
 use Rattle.model.proofs.build.with_turns.Tie as tie
@@ -18,11 +18,23 @@ abbrev μ-loop : tie.MeasureT-loop
 loop-holds : tie.Need-loop-holds Inv-loop μ-loop
 loop-holds c = turning-none (c .args .flow) (c .args .period) (c .args .turns) (c .args .packets)
 
-mul-with-one : tie.Need-mul-with-one Inv-loop μ-loop
-mul-with-one c = omega (arith, mul-le-mul-right (c .before .before .args .period) (c .loop-test .taken), suc-mul (c .before .loop .k) (c .before .before .args .period), c .before .before .pre .small)
+mul-next : tie.Need-mul-next Inv-loop μ-loop
+mul-next c = omega (arith, c .before .loop .inv .counted, c .before .before .pre .room, c .loop-test .taken)
 
-with-one-requires : tie.Need-with-one-requires Inv-loop μ-loop
-with-one-requires c κs = omega (arith, c .before .loop .inv .counted, c .before .before .pre .room, c .loop-test .taken)
+element-write-next : tie.Need-element-write-next Inv-loop μ-loop
+element-write-next c = omega (arith, c .before .loop .inv .counted, c .before .before .pre .room, c .loop-test .taken)
+
+mul-next-2 : tie.Need-mul-next-2 Inv-loop μ-loop
+mul-next-2 c = omega (arith, mul-le-mul-right (c .before .before .args .period) (c .loop-test .taken), suc-mul (c .before .loop .k) (c .before .before .args .period), c .before .before .pre .small)
+
+mul-next-3 : tie.Need-mul-next-3 Inv-loop μ-loop
+mul-next-3 c = omega (arith, c .before .loop .inv .counted, c .before .before .pre .room, c .loop-test .taken)
+
+element-write-next-2 : tie.Need-element-write-next-2 Inv-loop μ-loop
+element-write-next-2 c = omega (arith, c .before .loop .inv .counted, c .before .before .pre .room, c .loop-test .taken)
+
+add-next : tie.Need-add-next Inv-loop μ-loop
+add-next c = omega (arith, c .before .loop .inv .counted, c .before .before .pre .room, c .loop-test .taken)
 
 add-k : tie.Need-add-k Inv-loop μ-loop
 add-k c = search needs
@@ -31,7 +43,8 @@ loop-less : tie.Need-loop-less Inv-loop μ-loop
 loop-less c = search needs
 
 loop-again : tie.Need-loop-again Inv-loop μ-loop
-loop-again c = turning-next (c .before .before .before .args .flow) (c .before .before .before .args .period) (c .before .before .before .args .turns) (c .before .before .before .args .packets) (c .before .before .loop .next) (c .with-one .result) (c .before .before .loop .k) (c .before .before .loop .inv) (c .before .loop-test .taken) (c .with-one .ensures)
+unfolding withOne
+loop-again c = turning-next (c .before .before .args .flow) (c .before .before .args .period) (c .before .before .args .turns) (c .before .before .args .packets) (c .before .loop .next) _ (c .before .loop .k) (c .before .loop .inv) (c .loop-test .taken) refl
 
 returns : tie.Need-returns Inv-loop μ-loop
 unfolding withTurns
@@ -46,8 +59,12 @@ with-turns-spec =
     Inv-loop
     μ-loop
     loop-holds
-    mul-with-one
-    with-one-requires
+    mul-next
+    element-write-next
+    mul-next-2
+    mul-next-3
+    element-write-next-2
+    add-next
     add-k
     loop-less
     loop-again

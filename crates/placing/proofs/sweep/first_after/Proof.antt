@@ -1,5 +1,5 @@
 -- `first_after` halves the range: what lies below it is not after the time, what lies above is.
-use Prim.Native.Nat.{_+_, _-_, _/_, _≤_}
+use Prim.Native.Nat.{_+_, _-_, _/_, _≤_, _<_}
 use mathlib.Core.Path.{sym}
 use native.Mathlib.Omega.{arith}
 use Rattle.placing.specs.Busy.{entry}
@@ -9,7 +9,7 @@ use Rattle.placing.proofs.sweep.first_after.Statement.{statement}
 use Rattle.placing.proofs.sweep.first_after.Tie as tie
 
 abbrev Inv-loop : tie.InvT-loop
-Inv-loop by count from time low₀ high₀ low high = Halving (entry by from) count time low high × (count ≤ 1024)
+Inv-loop by count from time low₀ high₀ low high = Halving (λ j. entry by from j ≤ time) (λ j. time < entry by from j) count low high × (count ≤ 1024)
 
 abbrev μ-loop : tie.MeasureT-loop
 μ-loop by count from time low₀ high₀ low high = high - low
@@ -46,14 +46,14 @@ loop-less c = search needs
 
 loop-again : tie.Need-loop-again Inv-loop μ-loop
 unfolding entry
-loop-again c = (halving-up (c .before .before .before .before .before .pre .rising) (c .before .before .before .before .loop .inv .0) (omega arith) (omega (arith, c .before .before .before .loop-test .taken)) (c .if1 .taken), c .before .before .before .before .loop .inv .1)
+loop-again c = (halving-up (c .before .before .before .before .loop .inv .0) (omega arith) (omega (arith, c .before .before .before .loop-test .taken)) (λ j k. omega (arith, c .before .before .before .before .before .pre .rising j _ k (omega (arith, c .before .before .before .before .loop .inv .0 .within, c .before .before .before .loop-test .taken)), c .if1 .taken)), c .before .before .before .before .loop .inv .1)
 
 loop-less-2 : tie.Need-loop-less-2 Inv-loop μ-loop
 loop-less-2 c = search needs
 
 loop-again-2 : tie.Need-loop-again-2 Inv-loop μ-loop
 unfolding entry
-loop-again-2 c = (halving-down (c .before .before .before .before .before .pre .rising) (c .before .before .before .before .loop .inv .0) (omega arith) (omega (arith, c .before .before .before .loop-test .taken)) (c .if1 .left), c .before .before .before .before .loop .inv .1)
+loop-again-2 c = (halving-down (c .before .before .before .before .loop .inv .0) (omega arith) (omega (arith, c .before .before .before .loop-test .taken)) (λ j k n. omega (arith, c .before .before .before .before .before .pre .rising _ j k n, c .if1 .left)), c .before .before .before .before .loop .inv .1)
 
 returns : tie.Need-returns Inv-loop μ-loop
 returns c = sym (halving-end (c .before .loop .inv .0) (c .loop-test .left))
