@@ -52,8 +52,9 @@ module _ {ps : List Packet} {load : Load} {release due : List ℕ} {f g : ℕ} (
   next-in = going .carried .numbers (s .at) more
 
   -- what placing it asks
-  pub place-asks : Place load release due (s .busy) f (nextOf s)
-  place-asks = record {
+  pub place-asks : {marks : List ℕ} → length marks ≡ 2048 → Place load release due marks (s .busy) f (nextOf s)
+  place-asks marks-long = record {
+    marks-long = marks-long;
     loaded = ready .loaded;
     kept = going .kept;
     packet = omega (arith, next-in, few);

@@ -122,7 +122,8 @@ pub record TurnsAway (order fails : List ℕ) (w : Walk) (packet tries : ℕ) : 
   pub bounded : w .tries + tries ≤ 1024 * 33554432
 
 -- what a step asks: some packets that the arrays hold, a pass that goes on, and a packet to be taken
-pub record Steps (load : Load) (release due : List ℕ) (f g : ℕ) (s : State) : Type 0 where
+pub record Steps (load : Load) (release due marks : List ℕ) (f g : ℕ) (s : State) : Type 0 where
+  pub marks-long : length marks ≡ 2048
   pub ps : List Packet
   pub ready : Ready ps load release due f g
   pub going : Going ps (load .lens) (load .links) g s

@@ -106,6 +106,7 @@ fn step(
     from: &mut [u32; 1024],
     until: &mut [u32; 1024],
     who: &mut [u16; 1024],
+    marks: &mut [u8; 2048],
     flow: &[u16; 1024],
     occupancy: &[u32; 64],
     lens: &[usize; 64],
@@ -115,8 +116,8 @@ fn step(
     pruning: u32,
     threshold: u32,
 ) -> Walk
-    requires { ⌜ Steps (loadOf (now flow) (now occupancy) (now lens) (now links)) (now release) (now due) pruning threshold (stateOf (now order) (now fails) (now times) (now by) (now from) (now until) (now who) w) ⌝ }
-    ensures { λ r. ⌜ ((ps : List Packet) → Ready ps (loadOf (now (flow .entry)) (now (occupancy .entry)) (now (lens .entry)) (now (links .entry))) (now (release .entry)) (now (due .entry)) pruning threshold → Going ps (now (lens .entry)) (now (links .entry)) threshold (stateOf (now (order .entry)) (now (fails .entry)) (now (times .entry)) (now (by .entry)) (now (from .entry)) (now (until .entry)) (now (who .entry)) w) → w .at < length ps → Stepped ps (now (lens .entry)) (now (links .entry)) pruning threshold (stateOf (now (order .entry)) (now (fails .entry)) (now (times .entry)) (now (by .entry)) (now (from .entry)) (now (until .entry)) (now (who .entry)) w) (stateOf (now (order .exit)) (now (fails .exit)) (now (times .exit)) (now (by .exit)) (now (from .exit)) (now (until .exit)) (now (who .exit)) r)) ⌝ }
+    requires { ⌜ Steps (loadOf (now flow) (now occupancy) (now lens) (now links)) (now release) (now due) (now marks) pruning threshold (stateOf (now order) (now fails) (now times) (now by) (now from) (now until) (now who) w) ⌝ }
+    ensures { λ r. ⌜ (length (now (marks .exit)) ≡ 2048) × ((ps : List Packet) → Ready ps (loadOf (now (flow .entry)) (now (occupancy .entry)) (now (lens .entry)) (now (links .entry))) (now (release .entry)) (now (due .entry)) pruning threshold → Going ps (now (lens .entry)) (now (links .entry)) threshold (stateOf (now (order .entry)) (now (fails .entry)) (now (times .entry)) (now (by .entry)) (now (from .entry)) (now (until .entry)) (now (who .entry)) w) → w .at < length ps → Stepped ps (now (lens .entry)) (now (links .entry)) pruning threshold (stateOf (now (order .entry)) (now (fails .entry)) (now (times .entry)) (now (by .entry)) (now (from .entry)) (now (until .entry)) (now (who .entry)) w) (stateOf (now (order .exit)) (now (fails .exit)) (now (times .exit)) (now (by .exit)) (now (from .exit)) (now (until .exit)) (now (who .exit)) r)) ⌝ }
 {
     let at = w.at;
     let extent = w.extent;
@@ -128,6 +129,7 @@ fn step(
         until,
         who,
         extent,
+        marks,
         flow,
         occupancy,
         lens,
@@ -200,6 +202,7 @@ pub fn pass(
     let mut from = [0u32; 1024];
     let mut until = [0u32; 1024];
     let mut who = [0u16; 1024];
+    let mut marks = [0u8; 2048];
     let extent = Extent {
         count: 0,
         longest: 0,
@@ -221,6 +224,7 @@ pub fn pass(
             &mut from,
             &mut until,
             &mut who,
+            &mut marks,
             flow,
             occupancy,
             lens,

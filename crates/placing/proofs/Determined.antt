@@ -38,12 +38,13 @@ pub in-order-determined : (κs : Lfts 1) (a : Dens κs in-order-kinds.ps) (x y :
     → take (a .1 .0) x ≡ take (a .1 .0) y
 in-order-determined κs a x y s t p q = p ∙ sym q
 
--- where a packet goes, for any packets and table that the arrays hold
-pub place-determined : (κs : Lfts 10) (a : Dens κs place-kinds.ps) (x y : resT place-kinds.r κs .Denot)
-    (s t : AtExit (endedOf 10 place-kinds.ps place-kinds.r) κs) (ps : List Packet) (table : List ℕ)
-    → Held ps (loadOf (now (a .1 .1 .1 .1 .1 .0)) (now (a .1 .1 .1 .1 .1 .1 .0)) (now (a .1 .1 .1 .1 .1 .1 .1 .0)) (now (a .1 .1 .1 .1 .1 .1 .1 .1 .0)))
-    (now (a .1 .1 .1 .1 .1 .1 .1 .1 .1 .0)) (now (a .1 .1 .1 .1 .1 .1 .1 .1 .1 .1 .0))
-    → Covers ps (now (a .1 .1 .1 .1 .1 .1 .1 .0)) (now (a .1 .1 .1 .1 .1 .1 .1 .1 .0))
+-- the marks left by `place`, and for any packets and table that the arrays hold where a packet goes
+pub place-determined : (κs : Lfts 11) (a : Dens κs place-kinds.ps) (x y : resT place-kinds.r κs .Denot)
+    (s t : AtExit (endedOf 11 place-kinds.ps place-kinds.r) κs) (ps : List Packet) (table : List ℕ)
+    → Held ps (loadOf (now (a .1 .1 .1 .1 .1 .1 .0)) (now (a .1 .1 .1 .1 .1 .1 .1 .0)) (now (a .1 .1 .1 .1 .1 .1 .1 .1 .0)) (now (a .1 .1 .1 .1 .1 .1 .1 .1 .1 .0)))
+    (now (a .1 .1 .1 .1 .1 .1 .1 .1 .1 .1 .0)) (now (a .1 .1 .1 .1 .1 .1 .1 .1 .1 .1 .1 .0))
+    → Covers ps (now (a .1 .1 .1 .1 .1 .1 .1 .1 .0)) (now (a .1 .1 .1 .1 .1 .1 .1 .1 .1 .0))
     (busyOf (now (a .0)) (now (a .1 .0)) (now (a .1 .1 .0)) (now (a .1 .1 .1 .0)) (a .1 .1 .1 .1 .0 .count) (a .1 .1 .1 .1 .0 .longest)) table
-    → a .1 .1 .1 .1 .1 .1 .1 .1 .1 .1 .1 .1 .0 < length ps → place.Post κs a x s → place.Post κs a y t → x ≡ y
-place-determined κs a x y s t ps table held covers packet p q = p ps table held covers packet ∙ sym (q ps table held covers packet)
+    → a .1 .1 .1 .1 .1 .1 .1 .1 .1 .1 .1 .1 .1 .0 < length ps → place.Post κs a x s → place.Post κs a y t → (x ≡ y) × (now (s .1 .1 .1 .1 .1 .0) ≡ now (t .1 .1 .1 .1 .1 .0))
+place-determined κs a x y s t ps table held covers packet p q =
+    (p .1 ps table held covers packet ∙ sym (q .1 ps table held covers packet), p .0 ∙ sym (q .0))

@@ -4,6 +4,7 @@ pub mod Scanning
 pub mod Halving
 pub mod Ordering
 pub mod Paths
+pub mod Marking
 pub mod Sweeping
 pub mod Facing
 pub mod Bridging

@@ -17,12 +17,12 @@ use Rattle.placing.specs.Keep.{samePath}
 
 module _ {lens links : List ℕ} (paths : Paths lens links) (g : ℕ) (flow : g < 64) where
   -- it has as many links as it says
-  path-length : length (pathIn lens links g) ≡ getD lens g 0
+  pub path-length : length (pathIn lens links g) ≡ getD lens g 0
   unfolding pathIn
   path-length = length-take-le (getD lens g 0) (drop (g * 32) links) (omega (arith, length-drop (g * 32) links, paths .short g flow, paths .long))
 
   -- and they stand in its 32 places
-  path-at : (a : ℕ) → a < getD lens g 0 → getD (pathIn lens links g) a 0 ≡ getD links (g * 32 + a) 0
+  pub path-at : (a : ℕ) → a < getD lens g 0 → getD (pathIn lens links g) a 0 ≡ getD links (g * 32 + a) 0
   unfolding pathIn
   path-at a h = getD-take (getD lens g 0) (drop (g * 32) links) a 0 h ∙ getD-drop (g * 32) links a 0
 

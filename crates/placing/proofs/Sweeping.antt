@@ -86,7 +86,7 @@ grid-add begin f i d = omega (arith, add-mul i d f)
 
 module _ {lens links : List ℕ} {b : Busy} {g span f begin : ℕ} where
   -- it starts
-  pub sweep-start : {at : ℕ} → Sweep lens links b g span f begin at → Sweeping lens links b g span f begin at 0 begin
+  pub sweep-start : {marks : List ℕ} {at : ℕ} → Sweep lens links marks b g span f begin at → Sweeping lens links b g span f begin at 0 begin
   sweep-start s = record {
     within = s .within;
     grid = omega arith;

@@ -3,9 +3,9 @@
 use mathlib.Core.Path.{_≡_}
 use mathlib.Core.Bool.{Bool, not}
 use mathlib.Core.List.{List}
-use Prim.Native.Nat.{ℕ, _+_, _*_, _≤_, _<_}
+use Prim.Native.Nat.{ℕ, zero, suc, _+_, _*_, _%_, _≤_, _<_}
 use lib.Dec.{ltb}
-use lib.ListN.{length, getD, take, drop}
+use lib.ListN.{length, getD, set, take, drop}
 use Rattle.basics.specs.Choose.{both, choose}
 use Rattle.basics.specs.First.{first, some}
 use Rattle.mesh.specs.Share.{shares}
@@ -80,8 +80,23 @@ pub record Paths (lens links : List ℕ) : Type 0 where
   pub short : (g : ℕ) → g < 64 → getD lens g 0 ≤ 32
   pub long : length links ≡ 2048
 
+-- which of 2,048 marks is a link's
+unfoldable pub markOf : List ℕ → ℕ → ℕ → ℕ
+markOf links g a = getD links (g * 32 + a) 0 % 2048
+
+-- the marks of the first n links of flow g made
+unfoldable pub stamped : List ℕ → ℕ → ℕ → List ℕ → List ℕ
+stamped links g zero marks = marks
+stamped links g (suc n) marks = set (stamped links g n marks) (markOf links g n) (g + 1)
+
+-- the marks of all links of flow g are made, whatever else is marked: a link whose mark is not made is not on its path
+pub record Marked (lens links marks : List ℕ) (g : ℕ) : Type 0 where
+  pub long : length marks ≡ 2048
+  pub made : (a : ℕ) → a < getD lens g 0 → getD marks (markOf links g a) 0 ≡ g + 1
+
 -- what a sweep asks: settings and times in their ranges, and that what lies before its first stretch is over when it begins
-pub record Sweep (lens links : List ℕ) (b : Busy) (g span f begin at : ℕ) : Type 0 where
+pub record Sweep (lens links marks : List ℕ) (b : Busy) (g span f begin at : ℕ) : Type 0 where
+  pub marked : Marked lens links marks g
   pub paths : Paths lens links
   pub kept : Kept b
   pub flow : g < 64

@@ -60,7 +60,8 @@ pub record Loaded (load : Load) : Type 0 where
   pub paths : Paths (load .lens) (load .links)
 
 -- what the search for a start among the stretches asks
-pub record Place (load : Load) (release due : List ℕ) (b : Busy) (f p : ℕ) : Type 0 where
+pub record Place (load : Load) (release due marks : List ℕ) (b : Busy) (f p : ℕ) : Type 0 where
+  pub marks-long : length marks ≡ 2048
   pub loaded : Loaded load
   pub kept : Kept b
   pub packet : p < 1024

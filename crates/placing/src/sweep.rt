@@ -3,11 +3,11 @@ ghost use mathlib.Core.Path.{_≡_};
 ghost use mathlib.Core.List.{List};
 ghost use Prim.Native.Nat.{ℕ, _<_};
 ghost use lib.Dec.{ltb};
-ghost use lib.ListN.{length};
+ghost use lib.ListN.{length, getD};
 ghost use Rattle.basics.specs.First.{first};
 ghost use Rattle.mesh.specs.Share.{has};
 ghost use Rattle.packet.specs.Packet.{Packet};
-ghost use Rattle.placing.specs.Busy.{pathIn, busyOf, entry, firstGap, gapAt, Ordered, Paths, Sweep, Over};
+ghost use Rattle.placing.specs.Busy.{pathIn, busyOf, entry, firstGap, gapAt, stamped, Ordered, Paths, Marked, Sweep, Over};
 ghost use Rattle.placing.specs.Placing.{placingOf};
 ghost use Rattle.placing.specs.Held.{loadOf, Held, Covers, Place};
 
@@ -34,6 +34,35 @@ fn on_path(lens: &[usize; 64], links: &[u16; 2048], flow: usize, link: u16) -> b
         }
     }
     false
+}
+
+// Marks the links of a flow's path. A mark may stand for several links, so it tells only that a link may be on the path.
+fn stamp(marks: &mut [u8; 2048], lens: &[usize; 64], links: &[u16; 2048], own: usize)
+    requires { ⌜ Paths (now lens) (now links) × (own < 64) × (length (now marks) ≡ 2048) ⌝ }
+    ensures { λ _. ⌜ now (marks .exit) ≡ stamped (now (links .entry)) own (getD (now (lens .entry)) own 0) (now (marks .entry)) ⌝ }
+{
+    for a in 0..lens[own] {
+        let mark = (links[own * 32 + a] % 2048) as usize;
+        marks[mark] = own as u8 + 1;
+    }
+}
+
+// Whether a link is on the path of a flow whose links are marked: the path is walked only where the link's mark is made.
+fn marked_on(
+    marks: &[u8; 2048],
+    lens: &[usize; 64],
+    links: &[u16; 2048],
+    own: usize,
+    link: u16,
+) -> bool
+    requires { ⌜ Marked (now lens) (now links) (now marks) own × Paths (now lens) (now links) × (own < 64) ⌝ }
+    ensures { λ r. ⌜ r ≡ has (pathIn (now (lens .entry)) (now (links .entry)) own) link ⌝ }
+{
+    let mark = (link % 2048) as usize;
+    if marks[mark] != own as u8 + 1 {
+        return false;
+    }
+    on_path(lens, links, own, link)
 }
 
 // The first of the stretches, in order of start, that starts after a time; by halves.
@@ -65,6 +94,7 @@ pub fn sweep(
     until: &[u32; 1024],
     who: &[u16; 1024],
     longest: u32,
+    marks: &[u8; 2048],
     lens: &[usize; 64],
     links: &[u16; 2048],
     own: usize,
@@ -74,10 +104,9 @@ pub fn sweep(
     slots: u32,
     at: usize,
 ) -> Placed
-    requires { ⌜ Sweep (now lens) (now links) (busyOf (now by) (now from) (now until) (now who) count longest) own span pruning begin at ⌝ }
+    requires { ⌜ Sweep (now lens) (now links) (now marks) (busyOf (now by) (now from) (now until) (now who) count longest) own span pruning begin at ⌝ }
     ensures { λ r. ⌜ r ≡ gapAt pruning begin slots (firstGap (now (lens .entry)) (now (links .entry)) (busyOf (now (by .entry)) (now (from .entry)) (now (until .entry)) (now (who .entry)) count longest) own span pruning begin slots) ⌝ }
 {
-    let len = lens[own];
     let mut j = at;
     let mut i: u32 = 0;
     let mut t = begin;
@@ -99,8 +128,8 @@ pub fn sweep(
                 continue;
             }
             let other = who[k] as usize;
-            for a in 0..len {
-                if on_path(lens, links, other, links[own * 32 + a]) {
+            for a in 0..lens[other] {
+                if marked_on(marks, lens, links, own, links[other * 32 + a]) {
                     let steps = (end - t + pruning - 1) / pruning;
                     i += steps;
                     t += steps * pruning;
@@ -136,6 +165,7 @@ pub fn place(
     until: &[u32; 1024],
     who: &[u16; 1024],
     extent: Extent,
+    marks: &mut [u8; 2048],
     flow: &[u16; 1024],
     occupancy: &[u32; 64],
     lens: &[usize; 64],
@@ -145,8 +175,8 @@ pub fn place(
     pruning: u32,
     p: usize,
 ) -> Placed
-    requires { ⌜ Place (loadOf (now flow) (now occupancy) (now lens) (now links)) (now release) (now due) (busyOf (now by) (now from) (now until) (now who) (extent .count) (extent .longest)) pruning p ⌝ }
-    ensures { λ r. ⌜ ((ps : List Packet) → (table : List ℕ) → Held ps (loadOf (now (flow .entry)) (now (occupancy .entry)) (now (lens .entry)) (now (links .entry))) (now (release .entry)) (now (due .entry)) → Covers ps (now (lens .entry)) (now (links .entry)) (busyOf (now (by .entry)) (now (from .entry)) (now (until .entry)) (now (who .entry)) (extent .count) (extent .longest)) table → p < length ps → r ≡ placingOf ps pruning table p) ⌝ }
+    requires { ⌜ Place (loadOf (now flow) (now occupancy) (now lens) (now links)) (now release) (now due) (now marks) (busyOf (now by) (now from) (now until) (now who) (extent .count) (extent .longest)) pruning p ⌝ }
+    ensures { λ r. ⌜ (now (marks .exit) ≡ stamped (now (links .entry)) (getD (now (flow .entry)) p 0) (getD (now (lens .entry)) (getD (now (flow .entry)) p 0) 0) (now (marks .entry))) × ((ps : List Packet) → (table : List ℕ) → Held ps (loadOf (now (flow .entry)) (now (occupancy .entry)) (now (lens .entry)) (now (links .entry))) (now (release .entry)) (now (due .entry)) → Covers ps (now (lens .entry)) (now (links .entry)) (busyOf (now (by .entry)) (now (from .entry)) (now (until .entry)) (now (who .entry)) (extent .count) (extent .longest)) table → p < length ps → r ≡ placingOf ps pruning table p) ⌝ }
 {
     let own = flow[p] as usize;
     let begin = release[p];
@@ -155,6 +185,7 @@ pub fn place(
     let count = extent.count;
     let longest = extent.longest;
     let at = not_over(by, count, from, begin, longest);
+    stamp(marks, lens, links, own);
     sweep(
         by,
         count,
@@ -162,6 +193,7 @@ pub fn place(
         until,
         who,
         longest,
+        marks,
         lens,
         links,
         own,

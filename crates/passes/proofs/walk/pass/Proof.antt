@@ -1,7 +1,8 @@
 -- `pass` steps through its list; it is broken off, or runs to the end (proofs/Running.antt).
 use native.Mathlib.Omega.{arith}
-use mathlib.Core.Path.{refl}
+use mathlib.Core.Path.{_≡_, refl}
 use Prim.Native.Nat.{_-_}
+use lib.ListN.{length}
 use Rattle.placing.specs.Held.{loadOf}
 use Rattle.passes.specs.State.{stateOf}
 use Rattle.passes.proofs.Running.{Running, running-start, running-on, running-broken, running-whole}
@@ -10,30 +11,30 @@ use Rattle.passes.proofs.walk.pass.Statement.{statement}
 use Rattle.passes.proofs.walk.pass.Tie as tie
 
 abbrev Inv-loop : tie.InvT-loop
-Inv-loop order₀ fails₀ base n flow occupancy lens links release due pruning threshold times₀ by₀ from₀ until₀ who₀ w₀ order fails times by from until who w = Running (loadOf flow occupancy lens links) release due pruning threshold order₀ fails₀ base n (stateOf order fails times by from until who w)
+Inv-loop order₀ fails₀ base n flow occupancy lens links release due pruning threshold times₀ by₀ from₀ until₀ who₀ marks₀ w₀ order fails times by from until who marks w = Running (loadOf flow occupancy lens links) release due pruning threshold order₀ fails₀ base n (stateOf order fails times by from until who w) × (length marks ≡ 2048)
 
 abbrev μ-loop : tie.MeasureT-loop
-μ-loop order₀ fails₀ base n flow occupancy lens links release due pruning threshold times₀ by₀ from₀ until₀ who₀ w₀ order fails times by from until who w = n - w .at
+μ-loop order₀ fails₀ base n flow occupancy lens links release due pruning threshold times₀ by₀ from₀ until₀ who₀ marks₀ w₀ order fails times by from until who marks w = n - w .at
 
 loop-holds : tie.Need-loop-holds Inv-loop μ-loop
-loop-holds c = running-start refl (search needs) (search needs) (search needs) (search needs) (search needs)
+loop-holds c = (running-start refl (search needs) (search needs) (search needs) (search needs) (search needs), search needs)
 
 step-requires : tie.Need-step-requires Inv-loop μ-loop
-step-requires c κs = record { ps = c .before .before .before .before .before .before .before .before .before .before .pre .ps; ready = c .before .before .before .before .before .before .before .before .before .before .pre .ready; going = (c .before .before .before .before .before .before .before .before .before .loop .inv .goes (c .before .before .before .before .before .before .before .before .before .before .pre .ps) (c .before .before .before .before .before .before .before .before .before .before .pre .ready) (c .before .before .before .before .before .before .before .before .before .before .pre .carried) (c .before .before .before .before .before .before .before .before .before .before .pre .count)); more = omega (arith, c .before .before .before .before .before .before .before .if1 .taken, c .before .before .before .before .before .before .before .before .before .before .pre .count) }
+step-requires c κs = record { marks-long = c .before .before .before .before .before .before .before .before .before .before .loop .inv .1; ps = c .before .before .before .before .before .before .before .before .before .before .before .pre .ps; ready = c .before .before .before .before .before .before .before .before .before .before .before .pre .ready; going = (c .before .before .before .before .before .before .before .before .before .before .loop .inv .0 .goes (c .before .before .before .before .before .before .before .before .before .before .before .pre .ps) (c .before .before .before .before .before .before .before .before .before .before .before .pre .ready) (c .before .before .before .before .before .before .before .before .before .before .before .pre .carried) (c .before .before .before .before .before .before .before .before .before .before .before .pre .count)); more = omega (arith, c .before .before .before .before .before .before .before .before .if1 .taken, c .before .before .before .before .before .before .before .before .before .before .before .pre .count) }
 
 returns : tie.Need-returns Inv-loop μ-loop
-returns c = running-broken (c .before .before .before .before .before .before .before .before .before .before .before .loop .inv) (c .before .before .before .before .before .before .before .before .before .if1 .taken) (c .before .step .ensures) (c .if2 .taken)
+returns c = running-broken (c .before .before .before .before .before .before .before .before .before .before .before .before .loop .inv .0) (c .before .before .before .before .before .before .before .before .before .before .if1 .taken) (c .before .step .ensures .1) (c .if2 .taken)
 
 loop-less : tie.Need-loop-less Inv-loop μ-loop
 loop-less c =
-    let d = c .before .step .ensures (c .before .before .before .before .before .before .before .before .before .before .before .before .pre .ps) (c .before .before .before .before .before .before .before .before .before .before .before .before .pre .ready) (c .before .before .before .before .before .before .before .before .before .before .before .loop .inv .goes (c .before .before .before .before .before .before .before .before .before .before .before .before .pre .ps) (c .before .before .before .before .before .before .before .before .before .before .before .before .pre .ready) (c .before .before .before .before .before .before .before .before .before .before .before .before .pre .carried) (c .before .before .before .before .before .before .before .before .before .before .before .before .pre .count)) (omega (arith, c .before .before .before .before .before .before .before .before .before .if1 .taken, c .before .before .before .before .before .before .before .before .before .before .before .before .pre .count)) in
-    omega (arith, d .taken (c .if2 .left), c .before .before .before .before .before .before .before .before .before .if1 .taken)
+    let d = c .before .step .ensures .1 (c .before .before .before .before .before .before .before .before .before .before .before .before .before .pre .ps) (c .before .before .before .before .before .before .before .before .before .before .before .before .before .pre .ready) (c .before .before .before .before .before .before .before .before .before .before .before .before .loop .inv .0 .goes (c .before .before .before .before .before .before .before .before .before .before .before .before .before .pre .ps) (c .before .before .before .before .before .before .before .before .before .before .before .before .before .pre .ready) (c .before .before .before .before .before .before .before .before .before .before .before .before .before .pre .carried) (c .before .before .before .before .before .before .before .before .before .before .before .before .before .pre .count)) (omega (arith, c .before .before .before .before .before .before .before .before .before .before .if1 .taken, c .before .before .before .before .before .before .before .before .before .before .before .before .before .pre .count)) in
+    omega (arith, d .taken (c .if2 .left), c .before .before .before .before .before .before .before .before .before .before .if1 .taken)
 
 loop-again : tie.Need-loop-again Inv-loop μ-loop
-loop-again c = running-on (c .before .before .before .before .before .before .before .before .before .before .before .loop .inv) (c .before .before .before .before .before .before .before .before .before .if1 .taken) (c .before .step .ensures) (c .if2 .left)
+loop-again c = (running-on (c .before .before .before .before .before .before .before .before .before .before .before .before .loop .inv .0) (c .before .before .before .before .before .before .before .before .before .before .if1 .taken) (c .before .step .ensures .1) (c .if2 .left), c .before .step .ensures .0)
 
 returns-2 : tie.Need-returns-2 Inv-loop μ-loop
-returns-2 c = running-whole (c .before .before .loop .inv) (c .if1 .left)
+returns-2 c = running-whole (c .before .before .loop .inv .0) (c .if1 .left)
 
 pub pass-spec : {M : Type 1} → statement M
 pass-spec =

@@ -1,5 +1,5 @@
 -- `turn_away` raises the fail count, moves the packet to the front, and compares the count with the threshold.
-use mathlib.Core.Path.{refl, sym, _∙_}
+use mathlib.Core.Path.{refl, sym}
 use native.Mathlib.Omega.{arith}
 use borrow.Author.Tests.{lt-ltb, le-ltb}
 use Rattle.passes.specs.State.{turnedAway}
