@@ -110,8 +110,7 @@ class Maker:
                                    and self.is_name(i + 1)})
             for i in range(f.low + 1, f.high):
                 self.token(i)
-        order = {m: k for k, m in enumerate(self.out)}
-        self.out = sorted(order, key=lambda m: (m.start, order[m]))
+        self.out = sorted(dict.fromkeys(self.out), key=lambda m: m.start)
 
     def emit(self, kind, low, high, new):
         """One change: the tokens low to high, high not included, become `new`."""
@@ -159,7 +158,7 @@ class Maker:
         """All changes that begin at one token."""
         tok, word, before = self.s.tok, self.s.tok[i], self.s.tok[i - 1]
         binary = before in (")", "]") or (re.match(r"\w", before) and before not in WORDS)
-        if binary and word in COMPARED or word in COUNTED and binary:
+        if binary and (word in COMPARED or word in COUNTED):
             self.operator(i)
         if word in ("&&", "||"):
             self.emit("comparison", i, i + 1, "||" if word == "&&" else "&&")
@@ -187,22 +186,20 @@ class Maker:
             others = self.known["enums"][before]
             if tok[i + 1] in others:
                 self.emit("operand", i + 1, i + 2, others[(others.index(tok[i + 1]) + 1) % len(others)])
-        if self.f.result in INTEGERS and (before == "return" or i + 1 == self.f.high):
-            end = self.path_from(i) if before == "return" else i + 1
-            if end and (before == "return" or tok[self.path_to(end) - 1 if self.path_to(end) else 0] in (";", "}")):
-                self.more(self.path_to(end), end)
+        if self.f.result in INTEGERS and (before == "return" or self.path_from(i) == self.f.high and before in (";", "}")):
+            self.more(i, self.path_from(i))
         if before in ("{", "}", ";"):
             self.statement(i)
 
     def operator(self, i):
-        """The operator exchanged, and its plain operands with one more."""
+        """The operator exchanged, and its plain operands with one more; beside + and - a number's own changes say the same."""
         tok, word = self.s.tok, self.s.tok[i]
-        compared = word in COMPARED
+        product = word in ("*", "/", "%")
         for new in COMPARED.get(word) or COUNTED[word]:
-            self.emit("comparison" if compared else "operator", i, i + 1, new)
-        if not re.match(r"\d|b'", tok[i + 1]) and not re.match(r"\d|b'", tok[i - 1]) or word in "*/%":
+            self.emit("comparison" if word in COMPARED else "operator", i, i + 1, new)
+        if product or not any(re.match(r"\d|b'", side) for side in (tok[i - 1], tok[i + 1])):
             self.more(i + 1, self.path_from(i + 1))
-            if compared or word in "*/%":
+            if product or word in COMPARED:
                 self.more(self.path_to(i), i)
 
     def condition(self, i):
@@ -274,19 +271,19 @@ class Maker:
     def name(self, i):
         """A parameter, constant or field exchanged for the next one of its type."""
         tok, word = self.s.tok, self.s.tok[i]
-        if tok[i + 1] in ("(", "::", "!") or tok[i + 1] == ":" or tok[i - 1] in ("let", "mut", "'", "::"):
+        if tok[i + 1] in ("(", "::", "!", ":") or tok[i - 1] in ("let", "mut", "::"):
             return
         if tok[i - 1] == ".":
             groups = [fields for fields in self.known["structs"].values() if word in dict(fields)]
         else:
-            groups = [self.f.params, list(self.s.consts.items())]
+            groups = [self.f.params, list(self.known["consts"].items())]
         new = set()
         for group in groups:
             alike = [name for name, kind in group if kind == dict(group).get(word)]
             if word in alike:
                 new.add(alike[(alike.index(word) + 1) % len(alike)])
-        for other in sorted(new):
-            self.emit("operand", i, i + 1, other)
+        for other in sorted(new - {word}):
+            self.emit("operand", i, i + 1, self.known["homes"].get(other, other))
 
     def statement(self, i):
         """A statement dropped: an assignment, a call, an `if` with no else, a jump behind other statements."""
