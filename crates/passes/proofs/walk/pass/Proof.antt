@@ -1,6 +1,6 @@
 -- `pass` steps through its list; it is broken off, or runs to the end (proofs/Running.antt).
 use native.Mathlib.Omega.{arith}
-use mathlib.Core.Path.{_≡_, refl}
+use mathlib.Core.Path.{_≡_}
 use Prim.Native.Nat.{_-_}
 use lib.ListN.{length}
 use Rattle.placing.specs.Held.{loadOf}
@@ -17,7 +17,7 @@ abbrev μ-loop : tie.MeasureT-loop
 μ-loop order₀ fails₀ base n flow occupancy lens links release due pruning threshold times₀ by₀ from₀ until₀ who₀ marks₀ w₀ order fails times by from until who marks w = n - w .at
 
 loop-holds : tie.Need-loop-holds Inv-loop μ-loop
-loop-holds c = (running-start refl (search needs) (search needs) (search needs) (search needs) (search needs), search needs)
+loop-holds c = (running-start (search needs) (search needs) (search needs) (search needs) (search needs) (search needs), search needs)
 
 step-requires : tie.Need-step-requires Inv-loop μ-loop
 step-requires c κs = record { marks-long = c .before .before .before .before .before .before .before .before .before .before .loop .inv .1; ps = c .before .before .before .before .before .before .before .before .before .before .before .pre .ps; ready = c .before .before .before .before .before .before .before .before .before .before .before .pre .ready; going = (c .before .before .before .before .before .before .before .before .before .before .loop .inv .0 .goes (c .before .before .before .before .before .before .before .before .before .before .before .pre .ps) (c .before .before .before .before .before .before .before .before .before .before .before .pre .ready) (c .before .before .before .before .before .before .before .before .before .before .before .pre .carried) (c .before .before .before .before .before .before .before .before .before .before .before .pre .count)); more = omega (arith, c .before .before .before .before .before .before .before .before .if1 .taken, c .before .before .before .before .before .before .before .before .before .before .before .pre .count) }
