@@ -7,8 +7,9 @@ use placing::put_in;
 ghost use mathlib.Core.Path.{_≡_};
 ghost use mathlib.Core.List.{List};
 ghost use Prim.Native.Nat.{_+_, _<_};
-ghost use lib.ListN.{length, set};
+ghost use lib.ListN.{length, set, replicate};
 ghost use Rattle.packet.specs.Packet.{Packet};
+ghost use Rattle.placing.specs.Placing.{none};
 ghost use Rattle.placing.specs.Lists.{shifted};
 ghost use Rattle.placing.specs.Busy.{busyOf};
 ghost use Rattle.placing.specs.Keep.{busyWith};
@@ -170,6 +171,13 @@ fn step(
 // What a table's place holds whose packet is not placed.
 pub const NONE: u32 = 4_294_967_295;
 
+// A table that holds no time.
+fn no_times() -> [u32; 1024]
+    ensures { λ r. ⌜ r ≡ replicate 1024 none ⌝ }
+{
+    [NONE; 1024]
+}
+
 // What a pass leaves beside the order and the fail counts: whether it ran to the end of its list, where the list begins, the times
 // tried, and the table.
 pub struct Passed {
@@ -197,7 +205,7 @@ pub fn pass(
     requires { ⌜ Runs (loadOf (now flow) (now occupancy) (now lens) (now links)) (now release) (now due) pruning threshold (now order) (now fails) base n ⌝ }
     ensures { λ r. ⌜ ((ps : List Packet) → Ready ps (loadOf (now (flow .entry)) (now (occupancy .entry)) (now (lens .entry)) (now (links .entry))) (now (release .entry)) (now (due .entry)) pruning threshold → Carried ps threshold (now (order .entry)) (now (fails .entry)) base → n ≡ length ps → Ran ps pruning threshold (now (order .entry)) (now (fails .entry)) base (now (order .exit)) (now (fails .exit)) r) ⌝ }
 {
-    let mut times = [NONE; 1024];
+    let mut times = no_times();
     let mut by = [0u16; 1024];
     let mut from = [0u32; 1024];
     let mut until = [0u32; 1024];
