@@ -1,10 +1,12 @@
 -- `no_times` is an array of one value.
-use mathlib.Core.Path.{refl}
+use mathlib.Core.Path.{refl, ap}
+use Prim.Native.Nat.{ℕ}
+use lib.ListN.{replicate}
 use Rattle.passes.proofs.walk.no_times.Statement.{statement}
 use Rattle.passes.proofs.walk.no_times.Tie as tie
 
 returns : tie.Need-returns
-returns c = refl
+returns c = ap (λ (x : ℕ). replicate 1024 x) refl
 
 pub no-times-spec : {M : Type 1} → statement M
 no-times-spec = tie.close (tie.spec returns)
