@@ -87,7 +87,7 @@ pub fn first_after(by: &[u16; 1024], count: usize, from: &[u32; 1024], time: u32
 // The first gap for a packet of a flow from a time on, in steps of the pruning factor. Where a stretch is in the way, so it is at every
 // time before its end: the next time is the first past it, and those jumped over count as tried. Stretches that are over stay over, so
 // the sweep never goes back; one that starts after the packet's end ends it, since all later ones start later.
-pub fn sweep(
+fn sweep(
     by: &[u16; 1024],
     count: usize,
     from: &[u32; 1024],
