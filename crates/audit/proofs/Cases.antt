@@ -15,16 +15,16 @@ use Rattle.basics.proofs.First.{first-same, some-same}
 use Rattle.packet.specs.Packet.{Packet, mayStart, collide}
 use Rattle.packet.specs.Table.{timeAt, outside, meets, meetsHigher}
 use Rattle.model.specs.Packets.{hyperIn, packetsIn, packetsOf}
-use Rattle.model.specs.Refusals.{accepted, refusalOf}
+use Rattle.refusals.specs.Refusals.{accepted, refusalOf}
 use Rattle.model.specs.Answers.{refusedBy}
 use Rattle.model.specs.Fair.{Fair}
-use Rattle.model.specs.Arrays.{modelOf}
+use Rattle.arrays.specs.Arrays.{modelOf}
 use Rattle.model.specs.declared.flows.Mesh.{Mesh}
 use Rattle.model.specs.declared.answers.Refusal.{Refusal}
 use Rattle.model.proofs.Numbering.{packets-length}
-use Rattle.model.proofs.Reading.{model-count, packet-in}
-use Rattle.model.proofs.Order.{or-next, or-stays, refuse-not, refuse-by}
-use Rattle.model.proofs.Accepted.{fair-accepted}
+use Rattle.arrays.proofs.Reading.{model-count, packet-in}
+use Rattle.refusals.proofs.Order.{or-next, or-stays, refuse-not, refuse-by}
+use Rattle.refusals.proofs.Accepted.{fair-accepted}
 use Rattle.audit.specs.Check.{tooShort, checkRefusal, collided, passedWith, firstMeeting, verdictOf, checkOf}
 use Rattle.audit.specs.Scan.{strays, meetsIn, higherIn, firstPair, verdictBy, verdictIn}
 

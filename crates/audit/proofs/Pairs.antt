@@ -7,8 +7,8 @@ use native.Mathlib.Omega.{arith}
 use borrow.Author.Tests.{lt-ltb, le-ltb}
 use Rattle.basics.specs.First.{first, some}
 use Rattle.basics.proofs.First.{first-le, first-is, first-none}
-use Rattle.model.specs.declared.build.Flows.{Flows}
-use Rattle.model.specs.declared.build.Packets.{Packets}
+use Rattle.arrays.specs.declared.build.Flows.{Flows}
+use Rattle.arrays.specs.declared.build.Packets.{Packets}
 use Rattle.audit.specs.Scan.{meetsIn, higherIn, firstPair}
 use Rattle.audit.specs.declared.scan.Pair.{Pair}
 use Rattle.audit.proofs.Walks.{not-lower}

@@ -15,9 +15,9 @@ use Rattle.time.specs.Window.{overlaps}
 use Rattle.packet.specs.Packet.{Packet, mayStart, collide}
 use Rattle.packet.specs.Table.{timeAt}
 use Rattle.packet.proofs.Packet.{start-done}
-use Rattle.model.specs.Arrays.{packetIn}
-use Rattle.model.specs.declared.build.Flows.{Flows}
-use Rattle.model.specs.declared.build.Packets.{Packets}
+use Rattle.arrays.specs.Arrays.{packetIn}
+use Rattle.arrays.specs.declared.build.Flows.{Flows}
+use Rattle.arrays.specs.declared.build.Packets.{Packets}
 use Rattle.audit.specs.Scan.{strays, meetsIn, Timely}
 
 -- ---- a time and its packet's range

@@ -8,7 +8,7 @@ use Rattle.basics.specs.First.{first, some}
 use Rattle.packet.specs.Packet.{Packet}
 use Rattle.packet.specs.Table.{outside, meets, meetsHigher}
 use Rattle.model.specs.Packets.{hyperIn, packetsIn, packetsOf}
-use Rattle.model.specs.Refusals.{accepted, refuseIf, orElse, refusalOf}
+use Rattle.refusals.specs.Refusals.{accepted, refuseIf, orElse, refusalOf}
 use Rattle.model.specs.Answers.{refusedBy}
 use Rattle.model.specs.declared.flows.Mesh.{Mesh}
 use Rattle.model.specs.declared.answers.Refusal.{Refusal}

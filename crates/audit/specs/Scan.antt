@@ -10,9 +10,9 @@ use Rattle.basics.specs.First.{first, some}
 use Rattle.packet.specs.Packet.{mayStart, collide}
 use Rattle.packet.specs.Table.{timeAt}
 use Rattle.model.specs.Answers.{refusedBy}
-use Rattle.model.specs.Arrays.{packetIn, Ready}
-use Rattle.model.specs.declared.build.Flows.{Flows}
-use Rattle.model.specs.declared.build.Packets.{Packets}
+use Rattle.arrays.specs.Arrays.{packetIn, Ready}
+use Rattle.arrays.specs.declared.build.Flows.{Flows}
+use Rattle.arrays.specs.declared.build.Packets.{Packets}
 use Rattle.model.specs.declared.answers.Answer.{Answer}
 use Rattle.audit.specs.Check.{collided, passedWith}
 use Rattle.audit.specs.declared.scan.Pair.{Pair}

@@ -1,7 +1,7 @@
 // The two walks of the check: over the packets for a time out of range, then over the pairs for a collision.
+use arrays::Flows;
+use arrays::Packets;
 use mesh::share;
-use model::Flows;
-use model::Packets;
 use time::Window;
 use time::overlap;
 ghost use mathlib.Core.Path.{_≡_};

@@ -2,17 +2,17 @@
 use crate::scan::Pair;
 use crate::scan::first_meeting;
 use crate::scan::first_outside;
+use arrays::Flows;
+use arrays::Packets;
+use arrays::model_of;
 use model::Answer;
-use model::Flows;
 use model::Mesh;
-use model::Packets;
 use model::Refusal;
-use model::model_of;
-use model::refusal;
 use model::refused;
+use refusals::refusal;
 ghost use mathlib.Core.Path.{_≡_};
 ghost use Prim.Native.Nat.{_≤_, _<_};
-ghost use Rattle.model.specs.Arrays.{Ready};
+ghost use Rattle.arrays.specs.Arrays.{Ready};
 ghost use Rattle.audit.specs.Check.{collided, passedWith, checkOf};
 ghost use Rattle.audit.specs.Scan.{verdictIn};
 

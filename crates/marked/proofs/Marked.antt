@@ -13,13 +13,13 @@ use Rattle.time.specs.Window.{overlaps}
 use Rattle.time.specs.Divisor.{gcdF, gcdOf, lcmOf}
 use Rattle.time.specs.Hyper.{lcmWith, hyperOf}
 use Rattle.packet.specs.Packet.{mayStart, collide}
-use Rattle.packet.specs.Table.{packetAt, timeAt, outside, meets, meetsHigher}
+use Rattle.packet.specs.Table.{packetAt, timeAt, outside, meets, meetsHigher, placed}
 use Rattle.model.specs.Flows.{numberOf, sourceOf, targetOf, periodOf, sizeOf, dueOf, flowsIn, linksOfFlow, occupancyIn}
 use Rattle.model.specs.Packets.{periodsOf, hyperIn, turnsIn, packetsIn, packetOf, packetsFrom, packetsOf}
-use Rattle.model.specs.Refusals.{outsideOf, badMesh, badList, badNodes, badTimes, tooLong, badHyper, badPackets, refuseIf, orElse, flowRefusal, badFlow, flowsRefusal, sumsRefusal, refusalOf}
+use Rattle.refusals.specs.Refusals.{outsideOf, badMesh, badList, badNodes, badTimes, tooLong, badHyper, badPackets, refuseIf, orElse, flowRefusal, badFlow, flowsRefusal, sumsRefusal, refusalOf}
 use Rattle.model.specs.Answers.{refusedBy}
-use Rattle.placing.specs.Placing.{placed, inTheWay, free, timeOf, slotsOf, takenOf, placedBy, placingOf}
-use Rattle.placing.specs.Order.{insert, sorted, slackOf, slackAt}
+use Rattle.placing.specs.Placing.{inTheWay, free, timeOf, slotsOf, takenOf, placedBy, placingOf}
+use Rattle.order.specs.Order.{insert, sorted, slackOf, slackAt}
 use Rattle.passes.specs.Pass.{raised, passFrom, passOver}
 use Rattle.passes.specs.Passes.{passesFrom, ceiling, searchBy, skippedIn, lowestSkipped}
 use Rattle.search.specs.Answering.{badSettings, settingsRefusal, badTable, searchRefusal, numberFor, placeFor, foundAnswer, answerOf, tableAfter}

@@ -1,15 +1,12 @@
 -- What the tests leave: numbers in their ranges, named part by part.
 use mathlib.Core.Path.{_≡_}
 use mathlib.Core.List.{List}
-use Prim.Native.Nat.{ℕ, _+_, _*_, _^_, _≤_, _<_}
+use Prim.Native.Nat.{ℕ, _+_, _*_, _≤_, _<_}
 use lib.ListN.{length}
 use Rattle.time.specs.Hyper.{most}
 use Rattle.model.specs.Flows.{sourceOf, targetOf, periodOf, sizeOf, dueOf, flowsIn, occupancyIn}
 use Rattle.model.specs.Packets.{hyperIn, packetsIn}
-use Rattle.model.specs.Arrays.{flowsUpTo}
 use Rattle.model.specs.declared.flows.Mesh.{Mesh}
-use Rattle.model.specs.declared.build.Flows.{Flows}
-use Rattle.model.specs.declared.build.Packets.{Packets}
 
 -- past 2: mesh numbers in their ranges
 pub record FairMesh (mesh : Mesh) : Type 0 where
@@ -74,14 +71,3 @@ pub record Fair (mesh : Mesh) (numbers : List ℕ) : Type 0 where
   pub flows : (f : ℕ) → f < flowsIn numbers → FairFlow mesh numbers f
   pub hyper-high : hyperIn numbers ≤ most
   pub packets-high : packetsIn numbers ≤ 1024
-
--- what the next flow asks: a model that is not refused, and the flows before it
-pub record Next (flows : Flows) (mesh : Mesh) (numbers : List ℕ) : Type 0 where
-  pub fair : Fair mesh numbers
-  pub below : flows .count < flowsIn numbers
-  pub before : flows ≡ flowsUpTo mesh numbers (flows .count)
-
--- what the packets of one more flow ask: room for them, and releases below 2 ^ 32
-pub record Room (packets : Packets) (period turns : ℕ) : Type 0 where
-  pub room : packets .count + turns ≤ 1024
-  pub small : turns * period < 2 ^ 32

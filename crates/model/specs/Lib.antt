@@ -1,7 +1,5 @@
--- The model: mesh numbers and flows, the packets of one hyper-period, refusals, the answer's fields, and the arrays of the code.
+-- The model: its numbers, its packets, what the tests leave, and the answer.
+pub mod Answers
 pub mod Flows
 pub mod Packets
-pub mod Refusals
 pub mod Fair
-pub mod Answers
-pub mod Arrays

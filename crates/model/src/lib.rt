@@ -1,16 +1,13 @@
-// The model: mesh and flows as lent numbers, refusals 2 and 4 to 9, and the packets of one hyper-period.
+// The model: mesh and flows as lent numbers, its hyper-period and number of packets, and the answer.
 mod answers;
-mod build;
 mod flows;
-mod judge;
 mod sums;
 
 pub use answers::Answer;
 pub use answers::Refusal;
 pub use answers::refused;
-pub use build::Flows;
-pub use build::Model;
-pub use build::Packets;
-pub use build::model_of;
 pub use flows::Mesh;
-pub use judge::refusal;
+pub use flows::number_of;
+pub use flows::occupancy_of;
+pub use sums::hyper_in;
+pub use sums::packets_in;

@@ -1,14 +1,12 @@
-// The hyper-period and the number of packets: refusals 8 and 9.
-use crate::answers::Refusal;
+// The hyper-period and the number of packets.
 use crate::flows::number_of;
 use time::Hyper;
 use time::hyper_period;
 ghost use mathlib.Core.Path.{_≡_};
-ghost use Prim.Native.Nat.{_≤_, _<_};
+ghost use Prim.Native.Nat.{_≤_};
 ghost use Rattle.basics.specs.Lists.{padded};
 ghost use Rattle.time.specs.Hyper.{hyperWithin};
 ghost use Rattle.model.specs.Packets.{periodsOf, hyperIn, packetsIn};
-ghost use Rattle.model.specs.Refusals.{sumsRefusal};
 ghost use Rattle.model.specs.Fair.{Timed};
 
 // All periods, flow after flow; what follows them is 0.
@@ -45,28 +43,4 @@ pub fn packets_in(numbers: &[u32], hyper: u32) -> u32
         sum += hyper / number_of(numbers, f, 2);
     }
     sum
-}
-
-// 8: H above 16,777,216. 9: more than 1,024 packets.
-pub fn refuse_sums(numbers: &[u32]) -> Refusal
-    requires { ⌜ Timed (now numbers) ⌝ }
-    ensures { λ r. ⌜ r ≡ sumsRefusal (now (numbers .entry)) ⌝ }
-{
-    let found = hyper_in(numbers);
-    let Hyper::Is(hyper) = found else {
-        return Refusal {
-            number: 8,
-            place: 0,
-        };
-    };
-    if 1024 < packets_in(numbers, hyper) {
-        return Refusal {
-            number: 9,
-            place: 0,
-        };
-    }
-    Refusal {
-        number: 0,
-        place: 0,
-    }
 }

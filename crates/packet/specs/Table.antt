@@ -2,7 +2,7 @@
 use mathlib.Core.Bool.{Bool, not}
 use mathlib.Core.List.{List}
 use Prim.Native.Nat.{ℕ}
-use lib.Dec.{ltb}
+use lib.Dec.{ltb, eqb}
 use lib.ListN.{length, getD}
 use Rattle.basics.specs.Choose.{both}
 use Rattle.basics.specs.First.{some}
@@ -15,6 +15,14 @@ packetAt ps p = getD ps p absent
 -- the table's time for packet number p
 unfoldable pub timeAt : List ℕ → ℕ → ℕ
 timeAt table p = getD table p 0
+
+-- what a table's place holds whose packet is not placed; a skipped packet's place holds 4,294,967,295
+abbrev pub none : ℕ
+none = 4294967295
+
+-- packet q is placed: its place of the table holds a time
+unfoldable pub placed : List ℕ → ℕ → Bool
+placed table q = not (eqb (getD table q none) none)
 
 -- 11: the time of packet p is outside its start range
 unfoldable pub outside : List Packet → List ℕ → ℕ → Bool

@@ -9,8 +9,8 @@ use lib.ListN.{length, set, length-set}
 use Rattle.basics.proofs.Each.{Each, each-append}
 use Rattle.packet.specs.Packet.{Packet}
 use Rattle.placing.specs.Placing.{placingOf}
-use Rattle.placing.specs.declared.sweep.Placed.{Placed}
-use Rattle.placing.specs.declared.sweep.Placed.the-variants.{At, Nowhere}
+use Rattle.gaps.specs.declared.gap.Placed.{Placed}
+use Rattle.gaps.specs.declared.gap.Placed.the-variants.{At, Nowhere}
 use Rattle.passes.specs.Pass.{Pass, raised, passFrom}
 use Rattle.passes.proofs.PassSteps.{pass-placed, pass-broken, pass-skipped}
 

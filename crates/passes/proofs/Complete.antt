@@ -12,11 +12,10 @@ use Rattle.basics.specs.Sums.{sumOf, countOf}
 use Rattle.basics.proofs.Choose.{not-passing}
 use Rattle.basics.proofs.Each.{Each, each-map}
 use Rattle.packet.specs.Packet.{Packet}
-use Rattle.packet.specs.Table.{passes}
+use Rattle.packet.specs.Table.{passes, none, placed}
 use Rattle.packet.proofs.Table.{start-inside, meets-higher, meets-collide, passes-all}
-use Rattle.placing.specs.Placing.{none, placed}
-use Rattle.placing.specs.Order.{sorted}
-use Rattle.placing.proofs.Ordering.{sorted-below}
+use Rattle.order.specs.Order.{sorted}
+use Rattle.order.proofs.Ordering.{sorted-below}
 use Rattle.passes.specs.Pass.{passFrom, passOver}
 use Rattle.passes.specs.Passes.{passesFrom, ceiling, searchBy, skippedIn}
 use Rattle.passes.proofs.Along.{along}

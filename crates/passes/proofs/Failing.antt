@@ -12,13 +12,13 @@ use borrow.Author.Tests.{lt-ltb, le-ltb}
 use Rattle.packet.specs.Packet.{Packet}
 use Rattle.packet.specs.Table.{packetAt}
 use Rattle.placing.specs.Placing.{placingOf}
-use Rattle.placing.specs.Order.{occurs}
-use Rattle.placing.specs.Lists.{shifted}
+use Rattle.order.specs.Order.{occurs}
+use Rattle.order.specs.Lists.{shifted}
 use Rattle.placing.specs.Held.{Load}
-use Rattle.placing.proofs.Shifting.{shifted-length}
-use Rattle.placing.proofs.Ordering.{occurs-append}
-use Rattle.placing.specs.declared.sweep.Placed.{Placed}
-use Rattle.placing.specs.declared.sweep.Placed.the-variants.{Nowhere}
+use Rattle.order.proofs.Shifting.{shifted-length}
+use Rattle.order.proofs.Ordering.{occurs-append}
+use Rattle.gaps.specs.declared.gap.Placed.{Placed}
+use Rattle.gaps.specs.declared.gap.Placed.the-variants.{Nowhere}
 use Rattle.passes.specs.Pass.{raised, passFrom}
 use Rattle.passes.specs.State.{State, stateOf, outcome, turnedAway, Ready, Carried, Going, Stepped}
 use Rattle.passes.specs.declared.walk.Walk.{Walk}

@@ -8,10 +8,10 @@ use native.Mathlib.Numerals.{add-one}
 use native.Mathlib.Omega.{arith}
 use lib.ListN.{length, getD, take, drop, take-append-drop, length-append}
 use lib.Seq.{slice, slice-cons, length-slice, take-suc, take-take, drop-at, drop-append-le, drop-drop, take-append-add, length-take-le}
-use Rattle.placing.specs.Lists.{shifted}
-use Rattle.placing.specs.Order.{occurs}
-use Rattle.placing.proofs.Shifting.{slice-take, shifted-front, shifted-before, shifted-at, shifted-moved, shifted-after}
-use Rattle.placing.proofs.Ordering.{occurs-append}
+use Rattle.order.specs.Lists.{shifted}
+use Rattle.order.specs.Order.{occurs}
+use Rattle.order.proofs.Shifting.{slice-take, shifted-front, shifted-before, shifted-at, shifted-moved, shifted-after}
+use Rattle.order.proofs.Ordering.{occurs-append}
 
 module _ (o : List ℕ) (base at n : ℕ) (low : base ≤ at) (more : at < n) (long : n ≤ length o) where
   -- the next packet and those behind it

@@ -12,7 +12,7 @@ use Rattle.time.specs.Units.{latestOf}
 use Rattle.packet.specs.Packet.{Packet}
 use Rattle.packet.specs.Table.{packetAt}
 use Rattle.placing.specs.Placing.{timeOf, slotsOf, takenOf, placedBy, placingOf}
-use Rattle.placing.specs.declared.sweep.Placed.the-variants.{At, Nowhere}
+use Rattle.gaps.specs.declared.gap.Placed.the-variants.{At, Nowhere}
 use Rattle.passes.specs.Pass.{raised, passFrom}
 
 module _ (ps : List Packet) (f g p : ℕ) (rest kept fails table : List ℕ) (tries m : ℕ) where

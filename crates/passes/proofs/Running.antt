@@ -9,8 +9,8 @@ use native.Mathlib.Omega.{arith}
 use lib.ListN.{length, take, replicate, length-replicate, getD-replicate, List·getD-eq-default}
 use lib.Seq.{slice, slice-empty}
 use Rattle.packet.specs.Packet.{Packet}
-use Rattle.placing.specs.Placing.{none, placed}
-use Rattle.placing.specs.Busy.{busyOf}
+use Rattle.packet.specs.Table.{none, placed}
+use Rattle.stretches.specs.Busy.{busyOf}
 use Rattle.placing.specs.Held.{Load}
 use Rattle.passes.specs.Pass.{passFrom, passOver}
 use Rattle.passes.specs.State.{State, outcome, passedOf, Ready, Carried, Going, Stepped, Ran}

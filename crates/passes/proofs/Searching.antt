@@ -10,7 +10,7 @@ use lib.Seq.{slice, length-slice, length-take-le, getD-take, getD-drop}
 use Rattle.basics.proofs.Each.{Each}
 use Rattle.packet.specs.Packet.{Packet}
 use Rattle.placing.specs.Held.{Load}
-use Rattle.placing.specs.Order.{sorted}
+use Rattle.order.specs.Order.{sorted}
 use Rattle.passes.specs.Pass.{Pass, passOver}
 use Rattle.passes.specs.Passes.{passesFrom, ceiling, searchBy}
 use Rattle.passes.specs.State.{passedOf, Ready, Carried, Ran}

@@ -13,11 +13,11 @@ use Rattle.basics.proofs.Choose.{not-passing, both-pass}
 use Rattle.basics.proofs.First.{first-passes, first-least, none-passes}
 use Rattle.time.specs.Units.{latestOf}
 use Rattle.packet.specs.Packet.{Packet, mayStart, collide}
-use Rattle.packet.specs.Table.{packetAt, timeAt}
+use Rattle.packet.specs.Table.{packetAt, timeAt, none, placed}
 use Rattle.packet.proofs.Packet.{start-at, collide-swap}
-use Rattle.placing.specs.Placing.{none, placed, inTheWay, free, timeOf, slotsOf, takenOf, placingOf}
-use Rattle.placing.proofs.Covering.{placed-other}
-use Rattle.placing.specs.declared.sweep.Placed.the-variants.{At}
+use Rattle.placing.specs.Placing.{inTheWay, free, timeOf, slotsOf, takenOf, placingOf}
+use Rattle.stretches.proofs.Covering.{placed-other}
+use Rattle.gaps.specs.declared.gap.Placed.the-variants.{At}
 use Rattle.passes.proofs.PassSteps.{placing-at, time-latest}
 use Rattle.passes.proofs.Running.{nothing-placed}
 

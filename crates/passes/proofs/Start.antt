@@ -9,8 +9,8 @@ use lib.ListN.{length, getD, replicate, length-replicate, getD-replicate, List·
 use lib.Seq.{slice, getD-take}
 use Rattle.basics.proofs.Each.{each-at}
 use Rattle.packet.specs.Packet.{Packet}
-use Rattle.placing.specs.Order.{sorted, occurs}
-use Rattle.placing.proofs.Ordering.{sorted-once, sorted-none, sorted-length, sorted-below}
+use Rattle.order.specs.Order.{sorted, occurs}
+use Rattle.order.proofs.Ordering.{sorted-once, sorted-none, sorted-length, sorted-below}
 use Rattle.passes.specs.State.{Carried}
 
 -- a list of zeros reads as 0 everywhere

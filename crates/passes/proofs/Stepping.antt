@@ -12,16 +12,17 @@ use Rattle.basics.proofs.Choose.{not-passing}
 use Rattle.time.specs.Hyper.{most}
 use Rattle.time.specs.Units.{latestOf}
 use Rattle.packet.specs.Packet.{Packet}
-use Rattle.packet.specs.Table.{packetAt}
-use Rattle.placing.specs.Placing.{placed, takenOf, placingOf}
-use Rattle.placing.specs.Order.{occurs}
-use Rattle.placing.specs.Keep.{busyWith}
-use Rattle.placing.specs.Held.{Load, flowAt, Covers, Place}
-use Rattle.placing.proofs.Ordering.{occurs-same}
-use Rattle.placing.proofs.Covering.{placed-other, Taking}
-use Rattle.placing.proofs.Growing.{kept-more, count-more, covers-more}
-use Rattle.placing.specs.declared.sweep.Placed.{Placed}
-use Rattle.placing.specs.declared.sweep.Placed.the-variants.{At}
+use Rattle.packet.specs.Table.{packetAt, placed}
+use Rattle.placing.specs.Placing.{takenOf, placingOf}
+use Rattle.order.specs.Order.{occurs}
+use Rattle.stretches.specs.Keep.{busyWith}
+use Rattle.placing.specs.Held.{Load, flowAt, Place}
+use Rattle.stretches.specs.Covers.{Covers}
+use Rattle.order.proofs.Ordering.{occurs-same}
+use Rattle.stretches.proofs.Covering.{placed-other, Taking}
+use Rattle.stretches.proofs.Growing.{kept-more, count-more, covers-more}
+use Rattle.gaps.specs.declared.gap.Placed.{Placed}
+use Rattle.gaps.specs.declared.gap.Placed.the-variants.{At}
 use Rattle.passes.specs.Pass.{raised, passFrom}
 use Rattle.passes.specs.State.{State, outcome, spanAt, Ready, Going, Settles, Stepped}
 use Rattle.passes.proofs.Parts.{rest-next, taken-more, list-occurs}

@@ -5,8 +5,9 @@ use Prim.Native.Nat.{ℕ, _+_}
 use lib.Dec.{ltb}
 use lib.ListN.{length, getD, set, replicate}
 use Rattle.packet.specs.Packet.{Packet}
-use Rattle.placing.specs.Placing.{none, placingOf}
-use Rattle.placing.specs.declared.sweep.Placed.the-variants.{At, Nowhere}
+use Rattle.packet.specs.Table.{none}
+use Rattle.placing.specs.Placing.{placingOf}
+use Rattle.gaps.specs.declared.gap.Placed.the-variants.{At, Nowhere}
 
 -- what a pass leaves: whether it ran to the end of its list, the list, the fail counts, the table, and the times tried
 pub record Pass : Type 0 where

@@ -6,8 +6,8 @@ use lib.ListN.{length, replicate}
 use Rattle.basics.specs.First.{first}
 use Rattle.basics.specs.Sums.{countOf}
 use Rattle.packet.specs.Packet.{Packet}
-use Rattle.placing.specs.Placing.{none, placed}
-use Rattle.placing.specs.Order.{sorted, slackAt}
+use Rattle.packet.specs.Table.{none, placed}
+use Rattle.order.specs.Order.{sorted, slackAt}
 use Rattle.passes.specs.Pass.{passOver}
 
 -- what the search leaves: the table, the passes begun, and the times tried

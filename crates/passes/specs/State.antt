@@ -9,12 +9,13 @@ use lib.Seq.{slice}
 use Rattle.time.specs.Hyper.{most}
 use Rattle.packet.specs.Packet.{Packet}
 use Rattle.basics.specs.Choose.{choose}
-use Rattle.placing.specs.Placing.{placed}
-use Rattle.placing.specs.Order.{occurs}
-use Rattle.placing.specs.Lists.{Room}
-use Rattle.placing.specs.Busy.{Busy, busyOf, Kept}
-use Rattle.placing.specs.Keep.{Keep}
-use Rattle.placing.specs.Held.{Load, flowAt, Held, Loaded, Covers}
+use Rattle.packet.specs.Table.{placed}
+use Rattle.order.specs.Order.{occurs}
+use Rattle.order.specs.Lists.{Room}
+use Rattle.stretches.specs.Busy.{Busy, busyOf, Kept}
+use Rattle.stretches.specs.Keep.{Keep}
+use Rattle.placing.specs.Held.{Load, flowAt, Held, Loaded}
+use Rattle.stretches.specs.Covers.{Covers}
 use Rattle.passes.specs.Pass.{Pass, passFrom, passOver}
 use Rattle.passes.specs.declared.walk.Walk.{Walk}
 use Rattle.passes.specs.declared.walk.Passed.{Passed}

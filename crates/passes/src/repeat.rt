@@ -1,11 +1,11 @@
 // The passes, from the list in order of a key, until one runs to the end of its list.
 use crate::walk::pass;
-use placing::in_order;
+use order::in_order;
 ghost use mathlib.Core.Path.{_≡_};
 ghost use mathlib.Core.List.{List};
 ghost use lib.ListN.{length};
 ghost use Rattle.packet.specs.Packet.{Packet};
-ghost use Rattle.placing.specs.Lists.{keyIn};
+ghost use Rattle.order.specs.Lists.{keyIn};
 ghost use Rattle.placing.specs.Held.{loadOf};
 ghost use Rattle.passes.specs.State.{Ready};
 ghost use Rattle.passes.specs.Search.{Searches, Searched};

@@ -1,18 +1,18 @@
 // One pass: the packets are taken in list order, each placed, moved to the front, or skipped.
-use placing::Extent;
-use placing::Placed;
-use placing::keep;
+use gaps::Placed;
+use order::put_in;
 use placing::place;
-use placing::put_in;
+use stretches::Extent;
+use stretches::keep;
 ghost use mathlib.Core.Path.{_≡_};
 ghost use mathlib.Core.List.{List};
 ghost use Prim.Native.Nat.{_+_, _<_};
 ghost use lib.ListN.{length, set, replicate};
 ghost use Rattle.packet.specs.Packet.{Packet};
-ghost use Rattle.placing.specs.Placing.{none};
-ghost use Rattle.placing.specs.Lists.{shifted};
-ghost use Rattle.placing.specs.Busy.{busyOf};
-ghost use Rattle.placing.specs.Keep.{busyWith};
+ghost use Rattle.packet.specs.Table.{none};
+ghost use Rattle.order.specs.Lists.{shifted};
+ghost use Rattle.stretches.specs.Busy.{busyOf};
+ghost use Rattle.stretches.specs.Keep.{busyWith};
 ghost use Rattle.placing.specs.Held.{loadOf, flowAt};
 ghost use Rattle.passes.specs.Pass.{raised};
 ghost use Rattle.passes.specs.State.{stateOf, spanAt, Ready, Carried, Going, Settles, Raises, turnedAway, TurnsAway, Steps, Stepped, Runs, Ran};

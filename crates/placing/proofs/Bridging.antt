@@ -18,10 +18,12 @@ use Rattle.mesh.specs.Share.{shares}
 use Rattle.time.specs.Units.{latestOf}
 use Rattle.time.specs.Window.{overlaps}
 use Rattle.packet.specs.Packet.{Packet, collide}
-use Rattle.packet.specs.Table.{packetAt, timeAt}
-use Rattle.placing.specs.Placing.{placed, inTheWay, free, timeOf, slotsOf, takenOf, placedBy, placingOf}
-use Rattle.placing.specs.Busy.{pathIn, Busy, startOf, endOf, flowOf, hits, firstGap, gapAt, Kept}
-use Rattle.placing.specs.Held.{Load, flowAt, Held, Covers}
+use Rattle.packet.specs.Table.{packetAt, timeAt, placed}
+use Rattle.placing.specs.Placing.{inTheWay, free, timeOf, slotsOf, takenOf, placedBy, placingOf}
+use Rattle.stretches.specs.Busy.{pathIn, Busy, startOf, endOf, flowOf, Kept}
+use Rattle.gaps.specs.Gaps.{hits, firstGap, gapAt}
+use Rattle.placing.specs.Held.{Load, flowAt, Held}
+use Rattle.stretches.specs.Covers.{Covers}
 
 module _ {ps : List Packet} {load : Load} {release due : List ℕ} {b : Busy} {table : List ℕ} (held : Held ps load release due)
     (kept : Kept b) (covers : Covers ps (load .lens) (load .links) b table) {p : ℕ} (h : p < length ps) where

@@ -1,16 +1,3 @@
--- The laws of the order and of placing.
-pub mod Shifting
-pub mod Scanning
-pub mod Halving
-pub mod Ordering
-pub mod Paths
-pub mod Marking
-pub mod Sweeping
-pub mod Facing
+-- The stretches in the way are the packets in the way; and that every answer is determined.
 pub mod Bridging
-pub mod Joining
-pub mod Covering
-pub mod Longer
-pub mod OneMore
-pub mod Growing
 pub mod Determined

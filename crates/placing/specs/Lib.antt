@@ -1,7 +1,3 @@
--- Placing one packet, the order of the list, and both as the code holds them.
+-- Placing one packet, and as the code does it.
 pub mod Placing
-pub mod Order
-pub mod Lists
-pub mod Busy
-pub mod Keep
 pub mod Held

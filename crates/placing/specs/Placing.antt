@@ -2,23 +2,15 @@
 use mathlib.Core.Bool.{Bool, not}
 use mathlib.Core.List.{List}
 use Prim.Native.Nat.{ℕ, _+_, _*_, _-_, _/_}
-use lib.Dec.{ltb, eqb}
-use lib.ListN.{length, getD}
+use lib.Dec.{ltb}
+use lib.ListN.{length}
 use Rattle.basics.specs.Choose.{both, choose}
 use Rattle.basics.specs.First.{first, some}
 use Rattle.time.specs.Units.{latestOf}
 use Rattle.packet.specs.Packet.{Packet, collide}
-use Rattle.packet.specs.Table.{packetAt, timeAt}
-use Rattle.placing.specs.declared.sweep.Placed.{Placed}
-use Rattle.placing.specs.declared.sweep.Placed.the-variants.{At, Nowhere}
-
--- what a table's place holds whose packet is not placed; a skipped packet's place holds 4,294,967,295
-abbrev pub none : ℕ
-none = 4294967295
-
--- packet q is placed: its place of the table holds a time
-unfoldable pub placed : List ℕ → ℕ → Bool
-placed table q = not (eqb (getD table q none) none)
+use Rattle.packet.specs.Table.{packetAt, timeAt, placed}
+use Rattle.gaps.specs.declared.gap.Placed.{Placed}
+use Rattle.gaps.specs.declared.gap.Placed.the-variants.{At, Nowhere}
 
 -- packet p, injected at s, collides with packet q, which is placed
 unfoldable pub inTheWay : List Packet → List ℕ → ℕ → ℕ → ℕ → Bool

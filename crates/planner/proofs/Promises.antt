@@ -6,10 +6,10 @@ use Prim.Native.Nat.{ℕ, _+_}
 use native.Mathlib.Omega.{arith}
 use borrow.Author.Tests.{ne-eqb}
 use Rattle.model.specs.Answers.{refusedBy}
-use Rattle.model.specs.Refusals.{badMesh, badList, flowsRefusal, sumsRefusal, refuseIf, orElse, refusalOf}
+use Rattle.refusals.specs.Refusals.{badMesh, badList, flowsRefusal, sumsRefusal, refuseIf, orElse, refusalOf}
 use Rattle.model.specs.declared.answers.Refusal.{Refusal}
 use Rattle.model.specs.declared.flows.Mesh.{Mesh}
-use Rattle.model.proofs.Order.{refuse-none, refuse-by, or-stays, or-none}
+use Rattle.refusals.proofs.Order.{refuse-none, refuse-by, or-stays, or-none}
 use Rattle.search.specs.Answering.{settingsRefusal, badTable, searchRefusal, answerOf}
 use Rattle.printer.specs.Printer.{piecesOf}
 use Rattle.printer.specs.declared.printing.Cursor.the-variants.{First}

@@ -12,17 +12,17 @@ use Rattle.basics.proofs.Lists.{tabulate-length, tabulate-at}
 use Rattle.packet.specs.Packet.{Packet, absent}
 use Rattle.packet.specs.Table.{packetAt}
 use Rattle.model.specs.Packets.{packetsIn, packetsOf}
-use Rattle.model.specs.Refusals.{accepted, refusalOf}
+use Rattle.refusals.specs.Refusals.{accepted, refusalOf}
 use Rattle.model.specs.Fair.{Fair}
-use Rattle.model.specs.Arrays.{arraysOf, modelOf, packetIn}
+use Rattle.arrays.specs.Arrays.{arraysOf, modelOf, packetIn}
 use Rattle.model.specs.declared.answers.Answer.{Answer}
-use Rattle.model.specs.declared.build.Model.{Model}
+use Rattle.arrays.specs.declared.build.Model.{Model}
 use Rattle.model.specs.declared.flows.Mesh.{Mesh}
-use Rattle.model.proofs.Accepted.{accepted-fair}
+use Rattle.refusals.proofs.Accepted.{accepted-fair}
 use Rattle.model.proofs.Numbering.{packets-length}
 use Rattle.model.proofs.InTime.{packets-in-time}
-use Rattle.model.proofs.Entries.{period-entry, flow-entry}
-use Rattle.model.proofs.Reading.{model-count, packet-in, model-ready}
+use Rattle.arrays.proofs.Entries.{period-entry, flow-entry}
+use Rattle.arrays.proofs.Reading.{model-count, packet-in, model-ready}
 use Rattle.planner.specs.Numbered.{packetsFor, arrayOf, planFor, Turned}
 use Rattle.planner.specs.declared.numbering.Plan.{Plan}
 

@@ -7,11 +7,11 @@ use lib.ListN.{getD}
 use Rattle.basics.specs.Lists.{padded}
 use Rattle.packet.specs.Packet.{Packet}
 use Rattle.model.specs.Packets.{packetsOf}
-use Rattle.model.specs.Refusals.{accepted, refusalOf}
-use Rattle.model.specs.Arrays.{packetIn, Ready}
+use Rattle.refusals.specs.Refusals.{accepted, refusalOf}
+use Rattle.arrays.specs.Arrays.{packetIn, Ready}
 use Rattle.model.specs.declared.answers.Answer.{Answer}
-use Rattle.model.specs.declared.build.Flows.{Flows}
-use Rattle.model.specs.declared.build.Packets.{Packets}
+use Rattle.arrays.specs.declared.build.Flows.{Flows}
+use Rattle.arrays.specs.declared.build.Packets.{Packets}
 use Rattle.model.specs.declared.flows.Mesh.{Mesh}
 use Rattle.planner.specs.declared.numbering.Plan.{Plan}
 

@@ -1,15 +1,15 @@
 // The packets of a model as the printer wants them: an answer with the flow and k of each packet.
+use arrays::Flows;
+use arrays::Packets;
+use arrays::model_of;
 use model::Answer;
-use model::Flows;
 use model::Mesh;
-use model::Packets;
 use model::Refusal;
-use model::model_of;
-use model::refusal;
+use refusals::refusal;
 ghost use mathlib.Core.Path.{_≡_};
 ghost use mathlib.Core.List.{[]};
 ghost use Rattle.basics.specs.Lists.{tabulate, padded};
-ghost use Rattle.model.specs.Arrays.{packetIn};
+ghost use Rattle.arrays.specs.Arrays.{packetIn};
 ghost use Rattle.planner.specs.Numbered.{packetsFor, planFor, Turned};
 
 // The answer, and for 0 and 13 the flow and k of each packet; what follows them is 0.

@@ -18,12 +18,12 @@ use Rattle.packet.specs.Packet.{Packet}
 use Rattle.packet.specs.Table.{outside, meets, meetsHigher, passes}
 use Rattle.model.specs.Flows.{periodOf, flowsIn}
 use Rattle.model.specs.Packets.{hyperIn, turnsIn, packetsOf}
-use Rattle.model.specs.Refusals.{accepted}
+use Rattle.refusals.specs.Refusals.{accepted}
 use Rattle.model.specs.Answers.{refusedBy}
 use Rattle.model.specs.Fair.{Fair}
 use Rattle.model.specs.declared.flows.Mesh.{Mesh}
 use Rattle.model.specs.declared.answers.Answer.{Answer}
-use Rattle.model.proofs.Accepted.{accepted-fair}
+use Rattle.refusals.proofs.Accepted.{accepted-fair}
 use Rattle.audit.specs.Check.{collided, passedWith, firstMeeting, verdictOf, checkOf}
 use Rattle.audit.proofs.Cases.{check-long, verdict-11, verdict-12, verdict-0}
 use Rattle.replay.specs.Replay.{Stray, Clash}

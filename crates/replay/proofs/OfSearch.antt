@@ -13,11 +13,11 @@ use Rattle.model.specs.Answers.{refusedBy}
 use Rattle.model.specs.Fair.{Fair}
 use Rattle.model.specs.declared.flows.Mesh.{Mesh}
 use Rattle.model.specs.declared.answers.Refusal.{Refusal}
-use Rattle.model.proofs.Accepted.{accepted-fair, fair-accepted}
+use Rattle.refusals.proofs.Accepted.{accepted-fair, fair-accepted}
 use Rattle.model.proofs.Numbering.{packets-length}
-use Rattle.model.proofs.Order.{or-none}
+use Rattle.refusals.proofs.Order.{or-none}
 use Rattle.audit.specs.Check.{checkOf}
-use Rattle.placing.specs.Order.{slackAt}
+use Rattle.order.specs.Order.{slackAt}
 use Rattle.passes.specs.Passes.{searchOf}
 use Rattle.passes.proofs.Complete.{search-length}
 use Rattle.search.specs.Answering.{settingsRefusal, searchRefusal, answerOf, tableAfter}

@@ -5,7 +5,7 @@ use Prim.Native.Nat.{ℕ, _≤_, _<_}
 use lib.ListN.{length}
 use Rattle.model.specs.Flows.{periodOf, flowsIn}
 use Rattle.model.specs.Packets.{hyperIn, packetsIn, packetsOf}
-use Rattle.model.specs.Refusals.{accepted, refusalOf}
+use Rattle.refusals.specs.Refusals.{accepted, refusalOf}
 use Rattle.model.specs.declared.flows.Mesh.{Mesh}
 use Rattle.replay.specs.Replay.{Clean}
 use Rattle.replay.specs.Receiver.{periodsOver, SeesOwn}

@@ -14,19 +14,19 @@ use Rattle.basics.specs.Sums.{countOf}
 use Rattle.basics.proofs.First.{first-same}
 use Rattle.packet.specs.Packet.{Packet}
 use Rattle.model.specs.Packets.{hyperIn, packetsIn, packetsOf}
-use Rattle.model.specs.Refusals.{outsideOf, refuseIf, refusalOf}
+use Rattle.refusals.specs.Refusals.{outsideOf, refuseIf, refusalOf}
 use Rattle.model.specs.Answers.{refusedBy}
 use Rattle.model.specs.Fair.{Fair}
-use Rattle.model.specs.Arrays.{modelOf}
+use Rattle.arrays.specs.Arrays.{modelOf}
 use Rattle.model.specs.declared.flows.Mesh.{Mesh}
 use Rattle.model.specs.declared.answers.Refusal.{Refusal}
-use Rattle.model.specs.declared.build.Model.{Model}
-use Rattle.model.proofs.Order.{neither, inside, refuse-none, or-next, or-stays}
-use Rattle.model.proofs.Accepted.{accepted-fair, accepted-between}
+use Rattle.arrays.specs.declared.build.Model.{Model}
+use Rattle.refusals.proofs.Order.{neither, inside, refuse-none, or-next, or-stays}
+use Rattle.refusals.proofs.Accepted.{accepted-fair, accepted-between}
 use Rattle.model.proofs.Numbering.{packets-length}
-use Rattle.model.proofs.Reading.{model-count}
-use Rattle.placing.specs.Placing.{none, placed}
-use Rattle.placing.specs.Order.{slackAt}
+use Rattle.arrays.proofs.Reading.{model-count}
+use Rattle.packet.specs.Table.{none, placed}
+use Rattle.order.specs.Order.{slackAt}
 use Rattle.passes.specs.Passes.{Found, searchOf, skippedIn, lowestSkipped}
 use Rattle.passes.specs.Search.{foundOf, Searched}
 use Rattle.passes.specs.declared.repeat.Outcome.{Outcome}

@@ -18,14 +18,14 @@ use Rattle.packet.specs.Packet.{Packet}
 use Rattle.model.specs.Flows.{flowsIn, linksOfFlow, occupancyIn}
 use Rattle.model.specs.Packets.{packetsIn, packetOf, packetsOf}
 use Rattle.model.specs.Fair.{Fair}
-use Rattle.model.specs.Arrays.{flowsUpTo, arraysOf, modelOf, noPath, packetIn}
+use Rattle.arrays.specs.Arrays.{flowsUpTo, arraysOf, modelOf, noPath, packetIn}
 use Rattle.model.specs.declared.flows.Mesh.{Mesh}
-use Rattle.model.specs.declared.build.Model.{Model}
+use Rattle.arrays.specs.declared.build.Model.{Model}
 use Rattle.model.proofs.Numbering.{packets-length}
 use Rattle.model.proofs.InTime.{InTime, turns-low, fair-timed, packet-in-time, packets-in-time}
-use Rattle.model.proofs.Entries.{occupancy-entry, path-entry, flow-entry}
-use Rattle.model.proofs.Reading.{model-count, packet-in}
-use Rattle.placing.specs.Busy.{pathIn}
+use Rattle.arrays.proofs.Entries.{occupancy-entry, path-entry, flow-entry}
+use Rattle.arrays.proofs.Reading.{model-count, packet-in}
+use Rattle.stretches.specs.Busy.{pathIn}
 use Rattle.placing.specs.Held.{loadOf, flowAt, Held}
 use Rattle.passes.specs.State.{Ready}
 use Rattle.search.specs.Spread.{Spread, Lens, Modelled}

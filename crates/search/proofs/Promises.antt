@@ -16,19 +16,18 @@ use Rattle.basics.specs.First.{first}
 use Rattle.basics.specs.Sums.{sumOf, countOf}
 use Rattle.basics.proofs.First.{first-passes, first-least}
 use Rattle.packet.specs.Packet.{Packet}
-use Rattle.packet.specs.Table.{packetAt, timeAt, passes}
+use Rattle.packet.specs.Table.{packetAt, timeAt, passes, none, placed}
 use Rattle.model.specs.Packets.{packetsIn, packetsOf}
 use Rattle.model.specs.Flows.{flowsIn}
-use Rattle.model.specs.Refusals.{badMesh, badList, badNodes, badTimes, tooLong, badHyper, badPackets, badFlow, refuseIf, orElse, flowRefusal, flowsRefusal, sumsRefusal, refusalOf}
+use Rattle.refusals.specs.Refusals.{badMesh, badList, badNodes, badTimes, tooLong, badHyper, badPackets, badFlow, refuseIf, orElse, flowRefusal, flowsRefusal, sumsRefusal, refusalOf}
 use Rattle.model.specs.Answers.{refusedBy}
 use Rattle.model.specs.declared.flows.Mesh.{Mesh}
 use Rattle.model.specs.declared.answers.Refusal.{Refusal}
 use Rattle.model.specs.declared.answers.Answer.{Answer}
-use Rattle.model.proofs.Order.{or-none}
+use Rattle.refusals.proofs.Order.{or-none}
 use Rattle.model.proofs.Numbering.{packets-length}
 use Rattle.model.proofs.InTime.{packets-in-time}
-use Rattle.placing.specs.Placing.{none, placed}
-use Rattle.placing.specs.Order.{slackAt}
+use Rattle.order.specs.Order.{slackAt}
 use Rattle.passes.specs.Passes.{Found, searchOf, skippedIn, lowestSkipped}
 use Rattle.passes.proofs.Sound.{Safe}
 use Rattle.passes.proofs.Complete.{search-length, search-safe, complete-passes, skipped-holds}

@@ -12,7 +12,7 @@ use borrow.Author.Tests.{eq-eqb, ne-eqb}
 use Rattle.basics.specs.Choose.{asNumber}
 use Rattle.basics.specs.First.{first}
 use Rattle.basics.specs.Sums.{sumOf, countOf}
-use Rattle.placing.specs.Placing.{none, placed}
+use Rattle.packet.specs.Table.{none, placed}
 use Rattle.passes.specs.declared.repeat.Outcome.{Outcome}
 use Rattle.search.specs.Answering.{numberFor, placeFor, reportOf}
 

@@ -9,10 +9,10 @@ use lib.ListN.{length, getD, set, length-set, List·getD-eq-default}
 use lib.Seq.{getD-set-same, getD-set-other}
 use Rattle.packet.specs.Packet.{Packet, absent}
 use Rattle.packet.specs.Table.{packetAt}
-use Rattle.model.specs.Arrays.{packetIn}
-use Rattle.model.specs.declared.build.Model.{Model}
-use Rattle.placing.specs.Lists.{keyIn}
-use Rattle.placing.specs.Order.{slackOf, slackAt}
+use Rattle.arrays.specs.Arrays.{packetIn}
+use Rattle.arrays.specs.declared.build.Model.{Model}
+use Rattle.order.specs.Lists.{keyIn}
+use Rattle.order.specs.Order.{slackOf, slackAt}
 use Rattle.passes.specs.Search.{Searched}
 use Rattle.passes.specs.declared.repeat.Outcome.{Outcome}
 use Rattle.search.specs.Slack.{slackIn, Keyed, Slacks, SlacksOf}

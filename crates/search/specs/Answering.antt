@@ -9,12 +9,12 @@ use Rattle.basics.specs.First.{first}
 use Rattle.basics.specs.Sums.{countOf}
 use Rattle.packet.specs.Packet.{Packet}
 use Rattle.model.specs.Packets.{hyperIn, packetsIn, packetsOf}
-use Rattle.model.specs.Refusals.{outsideOf, refuseIf, orElse, refusalOf}
+use Rattle.refusals.specs.Refusals.{outsideOf, refuseIf, orElse, refusalOf}
 use Rattle.model.specs.Answers.{refusedBy}
 use Rattle.model.specs.declared.flows.Mesh.{Mesh}
 use Rattle.model.specs.declared.answers.Answer.{Answer}
 use Rattle.model.specs.declared.answers.Refusal.{Refusal}
-use Rattle.placing.specs.Placing.{placed}
+use Rattle.packet.specs.Table.{placed}
 use Rattle.passes.specs.declared.repeat.Outcome.{Outcome}
 use Rattle.passes.specs.Passes.{Found, searchOf, skippedIn, lowestSkipped}
 

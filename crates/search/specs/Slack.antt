@@ -4,7 +4,7 @@ use mathlib.Core.List.{List}
 use Prim.Native.Nat.{ℕ, _-_, _≤_, _<_}
 use lib.ListN.{length, getD}
 use Rattle.time.specs.Hyper.{most}
-use Rattle.model.specs.declared.build.Model.{Model}
+use Rattle.arrays.specs.declared.build.Model.{Model}
 
 -- D − occupancy of packet p, read off the arrays
 unfoldable pub slackIn : List ℕ → List ℕ → List ℕ → ℕ → ℕ

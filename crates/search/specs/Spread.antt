@@ -7,8 +7,8 @@ use Rattle.mesh.specs.declared.paths.Path.{Path}
 use Rattle.time.specs.Hyper.{most}
 use Rattle.packet.specs.Packet.{Packet}
 use Rattle.packet.specs.Table.{packetAt}
-use Rattle.model.specs.Arrays.{noPath, packetIn}
-use Rattle.model.specs.declared.build.Model.{Model}
+use Rattle.arrays.specs.Arrays.{noPath, packetIn}
+use Rattle.arrays.specs.declared.build.Model.{Model}
 
 -- place a of flow g holds link a of its path
 pub record Spread (paths : List Path) (links : List ℕ) : Type 0 where

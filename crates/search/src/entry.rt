@@ -1,12 +1,12 @@
 // The search: refusals first, then the passes, then the table and the answer.
 use crate::report::report;
 use crate::spread::run;
+use arrays::model_of;
 use model::Answer;
 use model::Mesh;
 use model::Refusal;
-use model::model_of;
-use model::refusal;
 use model::refused;
+use refusals::refusal;
 ghost use mathlib.Core.Path.{_≡_};
 ghost use Rattle.search.specs.Answering.{badSettings, settingsRefusal, answerOf, tableAfter};
 

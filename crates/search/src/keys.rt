@@ -1,5 +1,5 @@
 // The key of the list: the slack of each packet.
-use model::Model;
+use arrays::Model;
 ghost use Rattle.search.specs.Slack.{Keyed, SlacksOf};
 
 // The slack of each packet, D − occupancy; 0 past them.

@@ -9,7 +9,7 @@ ghost use Prim.Native.Nat.{_≤_};
 ghost use lib.ListN.{length, take, drop};
 ghost use Rattle.basics.specs.First.{first};
 ghost use Rattle.basics.specs.Sums.{countOf};
-ghost use Rattle.placing.specs.Placing.{placed};
+ghost use Rattle.packet.specs.Table.{placed};
 ghost use Rattle.search.specs.Answering.{reportOf};
 
 // Writes the first n places of the table; all further places stay.

@@ -1,7 +1,7 @@
 // The passes over a model: its paths go into one array of links, 32 places to a flow.
 use crate::keys::slacks;
+use arrays::Model;
 use mesh::Path;
-use model::Model;
 use passes::Outcome;
 use passes::rounds;
 ghost use mathlib.Core.Path.{_≡_};
@@ -10,9 +10,9 @@ ghost use Prim.Native.Nat.{ℕ, _<_, _*_};
 ghost use lib.ListN.{length, getD};
 ghost use lib.Seq.{paste};
 ghost use Rattle.packet.specs.Packet.{Packet};
-ghost use Rattle.placing.specs.Order.{slackAt};
+ghost use Rattle.order.specs.Order.{slackAt};
 ghost use Rattle.passes.specs.Search.{Searched};
-ghost use Rattle.model.specs.Arrays.{noPath};
+ghost use Rattle.arrays.specs.Arrays.{noPath};
 ghost use Rattle.search.specs.Spread.{Spread, Lens, Modelled};
 
 // The links with those of one more path, in its flow's places.

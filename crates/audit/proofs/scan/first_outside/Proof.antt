@@ -5,7 +5,7 @@ use borrow.Author.Count.{below-none, below-more}
 use Rattle.basics.proofs.First.{first-is, first-none}
 use Rattle.time.specs.Units.{latestOf}
 use Rattle.packet.specs.Table.{timeAt}
-use Rattle.model.specs.Arrays.{packetIn}
+use Rattle.arrays.specs.Arrays.{packetIn}
 use Rattle.audit.proofs.Walks.{early, late, timely}
 use mathlib.Core.Path.{_≡_}
 use mathlib.Core.Bool.{false}

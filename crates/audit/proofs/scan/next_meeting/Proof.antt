@@ -4,7 +4,7 @@ use mathlib.Core.Logic.{⊎-elim}
 use borrow.Author.Count.{below-more}
 use Rattle.basics.proofs.First.{first-is, first-none}
 use Rattle.packet.specs.Table.{timeAt}
-use Rattle.model.specs.Arrays.{packetIn}
+use Rattle.arrays.specs.Arrays.{packetIn}
 use Rattle.audit.proofs.Walks.{over-soon, not-lower, not-overlapping, not-sharing, met}
 use mathlib.Core.Path.{_≡_}
 use mathlib.Core.Bool.{false}

@@ -1,13 +1,13 @@
 -- `check` refuses as the model does; a model that is not refused has its verdict.
 use Rattle.model.specs.declared.answers.Refusal.{Refusal}
-use Rattle.model.specs.declared.build.Model.{Model}
-use Rattle.model.specs.Arrays.{Ready}
+use Rattle.arrays.specs.declared.build.Model.{Model}
+use Rattle.arrays.specs.Arrays.{Ready}
 use Rattle.audit.specs.Scan.{verdictIn}
 use mathlib.Core.Path.{sym, _∙_, ap, subst}
-use Rattle.model.specs.Refusals.{accepted}
+use Rattle.refusals.specs.Refusals.{accepted}
 use Rattle.model.specs.Answers.{refusedBy}
-use Rattle.model.proofs.Accepted.{accepted-fair}
-use Rattle.model.proofs.Reading.{model-ready}
+use Rattle.refusals.proofs.Accepted.{accepted-fair}
+use Rattle.arrays.proofs.Reading.{model-ready}
 use Rattle.audit.proofs.Cases.{verdict-is, check-early}
 use borrow.Author.Needs.{needs}
 use Rattle.audit.proofs.verdict.check.Statement.{statement}

@@ -3,7 +3,7 @@ use mathlib.Core.Path.{_≡_, refl, ap}
 use native.Mathlib.Omega.{arith}
 use Prim.Native.Nat.{ℕ, _+_, _-_, _*_}
 use lib.ListN.{length}
-use Rattle.placing.specs.Lists.{keyIn}
+use Rattle.order.specs.Lists.{keyIn}
 use Rattle.placing.specs.Held.{loadOf}
 use Rattle.passes.proofs.Searching.{Searching, searching-start, passes-few, passes-least, stands-on, stands-end}
 use borrow.Author.Needs.{needs}

@@ -3,7 +3,7 @@ use native.Mathlib.Omega.{arith}
 use mathlib.Core.Path.{_≡_, _∙_, ap}
 use Prim.Native.Nat.{_-_}
 use lib.ListN.{length, length-replicate}
-use Rattle.placing.specs.Placing.{none}
+use Rattle.packet.specs.Table.{none}
 use Rattle.placing.specs.Held.{loadOf}
 use Rattle.passes.specs.State.{stateOf}
 use Rattle.passes.proofs.Running.{Running, running-start, running-on, running-broken, running-whole}

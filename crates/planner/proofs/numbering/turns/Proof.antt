@@ -7,7 +7,7 @@ use native.Mathlib.Omega.{arith}
 use lib.ListN.{length, set}
 use Rattle.basics.specs.Lists.{tabulate, padded}
 use Rattle.basics.proofs.Lists.{padded-tabulate}
-use Rattle.model.specs.Arrays.{packetIn}
+use Rattle.arrays.specs.Arrays.{packetIn}
 use borrow.Author.Needs.{needs}
 use Rattle.planner.proofs.numbering.turns.Statement.{statement}
 use Rattle.planner.proofs.numbering.turns.Tie as tie

@@ -1,9 +1,9 @@
 -- `with_packets` has the arrays of a model that is not refused, and of no packet else.
 use mathlib.Core.Path.{sym, _∙_, ap, subst}
-use Rattle.model.specs.Refusals.{accepted}
+use Rattle.refusals.specs.Refusals.{accepted}
 use Rattle.model.specs.declared.answers.Refusal.{Refusal}
-use Rattle.model.specs.declared.build.Model.{Model}
-use Rattle.model.proofs.Accepted.{accepted-fair}
+use Rattle.arrays.specs.declared.build.Model.{Model}
+use Rattle.refusals.proofs.Accepted.{accepted-fair}
 use Rattle.planner.specs.Numbered.{Turned}
 use Rattle.planner.proofs.Turning.{model-turned, plan-refused, plan-built}
 use borrow.Author.Needs.{needs}

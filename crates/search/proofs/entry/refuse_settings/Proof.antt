@@ -1,6 +1,6 @@
 -- The refusal is 3 where the settings are bad, and none elsewhere.
 use mathlib.Core.Path.{refl, sym, _∙_}
-use Rattle.model.specs.Refusals.{refuseIf}
+use Rattle.refusals.specs.Refusals.{refuseIf}
 use Rattle.search.specs.Answering.{settingsRefusal}
 use borrow.Author.Needs.{needs}
 use Rattle.search.proofs.entry.refuse_settings.Statement.{statement}

@@ -3,7 +3,7 @@ use native.Mathlib.Omega.{arith}
 use mathlib.Core.Path.{sym, _∙_, ap}
 use Rattle.model.specs.Answers.{refusedBy}
 use Rattle.model.specs.Packets.{packetsOf}
-use Rattle.model.specs.Refusals.{refusalOf}
+use Rattle.refusals.specs.Refusals.{refusalOf}
 use Rattle.model.specs.declared.answers.Refusal.{Refusal}
 use Rattle.search.proofs.Entering.{entry-refused, entry-short, entry-fair, model-holds, model-packets, entry-found}
 use borrow.Author.Needs.{needs}

@@ -5,7 +5,7 @@ use mathlib.Core.Path.{_≡_, sym}
 use mathlib.Core.Bool.{not, false}
 use borrow.Author.Count.{below-none, below-more}
 use Rattle.basics.proofs.First.{first-is, first-none}
-use Rattle.placing.specs.Placing.{placed}
+use Rattle.packet.specs.Table.{placed}
 use Rattle.search.proofs.Reporting.{not-placed, is-placed}
 use borrow.Author.Needs.{needs}
 use Rattle.search.proofs.report.lowest_in.Statement.{statement}

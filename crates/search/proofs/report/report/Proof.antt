@@ -3,7 +3,7 @@ use borrow.Author.Needs.{needs}
 use Prim.Native.Nat.{ℕ}
 use mathlib.Core.Bool.{not}
 use Rattle.basics.proofs.First.{first-le}
-use Rattle.placing.specs.Placing.{placed}
+use Rattle.packet.specs.Table.{placed}
 use Rattle.search.proofs.Reporting.{report-none, report-some}
 use native.Mathlib.Omega.{arith}
 use Rattle.search.proofs.report.report.Statement.{statement}

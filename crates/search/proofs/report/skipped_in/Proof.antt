@@ -6,7 +6,7 @@ use mathlib.Core.Path.{_≡_, sym, _∙_, ap}
 use mathlib.Core.Logic.{⊎-elim}
 use Rattle.basics.specs.Choose.{asNumber}
 use Rattle.basics.specs.Sums.{countOf}
-use Rattle.placing.specs.Placing.{placed}
+use Rattle.packet.specs.Table.{placed}
 use Rattle.search.proofs.Reporting.{not-placed, is-placed, count-next, count-none, count-most}
 use borrow.Author.Needs.{needs}
 use Rattle.search.proofs.report.skipped_in.Statement.{statement}

@@ -1,0 +1,2 @@
+-- The model as arrays.
+pub mod Arrays

@@ -1,0 +1,2 @@
+-- The gaps among the busy stretches.
+pub mod Gaps

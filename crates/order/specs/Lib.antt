@@ -1,0 +1,3 @@
+-- The order of the list, and lists of packet numbers as the code holds them.
+pub mod Order
+pub mod Lists

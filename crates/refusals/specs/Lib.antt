@@ -1,0 +1,2 @@
+-- The refusals of a model.
+pub mod Refusals
