@@ -123,9 +123,8 @@ bool read_frame(const std::string& frames, std::size_t& place, std::string& text
   return true;
 }
 
-std::string write_pair(const std::string& text, const std::string& answer, u64 most) {
-  if (text.size() + answer.size() > most) return "";
-  return "text " + write_frame(text) + write_frame(answer);
+std::string write_text(const std::string& text, const std::string& answer, u64 most) {
+  return text.size() + answer.size() > most ? "" : "text " + write_frame(text);
 }
 
 }  // namespace oracle

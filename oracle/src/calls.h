@@ -23,8 +23,8 @@ std::string write_frame(const std::string& text);
 // Takes the frame at a place out of a row of frames and moves the place on; false if there is none of that form.
 bool read_frame(const std::string& frames, std::size_t& place, std::string& text);
 
-// A text and its answer: the word text, a blank, then both frames; nothing if they have more than so many bytes.
-std::string write_pair(const std::string& text, const std::string& answer, u64 most);
+// The call of a text: the word text, a blank, then its frame; nothing if text and answer have more than so many bytes.
+std::string write_text(const std::string& text, const std::string& answer, u64 most);
 
 }  // namespace oracle
 

@@ -40,15 +40,22 @@ int fault(const char* what) {
   return 2;
 }
 
-// Reads standard input line by line as calls and writes what an action makes of each.
+// Reads standard input as calls, line by line, and writes what an action makes of each; texts among them are run, if told.
 template <typename Action>
-int for_each_call(Action action) {
-  const std::string lines = read_all(stdin);
+int for_each_call(bool texts, Action action) {
+  const std::string calls = read_all(stdin);
   std::size_t begin = 0;
-  while (begin < lines.size()) {
-    const std::size_t feed = std::min(lines.find('\n', begin), lines.size());
+  while (begin < calls.size()) {
+    if (texts && calls.compare(begin, 5, "text ") == 0) {
+      std::string text;
+      begin += 5;
+      if (!oracle::read_frame(calls, begin, text)) return fault("a text is bad");
+      put(oracle::run_text(text));
+      continue;
+    }
+    const std::size_t feed = std::min(calls.find('\n', begin), calls.size());
     Call call;
-    if (!oracle::read_call(lines.substr(begin, feed - begin), call)) return fault("a line is no call");
+    if (!oracle::read_call(calls.substr(begin, feed - begin), call)) return fault("a line is no call");
     put(action(call));
     begin = feed + 1;
   }
@@ -57,7 +64,7 @@ int for_each_call(Action action) {
 
 // Answers calls.
 int call_lines(bool literal) {
-  return for_each_call([literal](Call& call) {
+  return for_each_call(true, [literal](Call& call) {
     const Answer answer = call.kind == Kind::check ? oracle::check(call)
                           : literal                ? oracle::search_literal(call)
                                                    : oracle::search_quick(call);
@@ -67,7 +74,7 @@ int call_lines(bool literal) {
 
 // Replays the tables of calls.
 int replay_lines(u64 hyper_periods) {
-  return for_each_call([hyper_periods](Call& call) -> std::string {
+  return for_each_call(false, [hyper_periods](Call& call) -> std::string {
     oracle::Model model;
     call.kind = Kind::check;
     const Answer refusal = oracle::make_model(call, model);
@@ -78,26 +85,14 @@ int replay_lines(u64 hyper_periods) {
   });
 }
 
-// Runs framed texts and writes framed answers.
-int run_frames() {
+// Runs framed texts and writes each as a call, if it and its answer have together at most so many bytes.
+int text_calls(u64 most) {
   const std::string frames = read_all(stdin);
   std::size_t place = 0;
   while (place < frames.size()) {
     std::string text;
     if (!oracle::read_frame(frames, place, text)) return fault("a frame is bad");
-    put(oracle::write_frame(oracle::run_text(text)));
-  }
-  return 0;
-}
-
-// Runs framed texts and writes each with its answer, if they have together at most so many bytes.
-int pair_frames(u64 most) {
-  const std::string frames = read_all(stdin);
-  std::size_t place = 0;
-  while (place < frames.size()) {
-    std::string text;
-    if (!oracle::read_frame(frames, place, text)) return fault("a frame is bad");
-    put(oracle::write_pair(text, oracle::run_text(text), most));
+    put(oracle::write_text(text, oracle::run_text(text), most));
   }
   return 0;
 }
@@ -141,8 +136,7 @@ int choose(int count, char** words) {
     put(oracle::run_text(read_all(stdin)));
     return 0;
   }
-  if (name == "runs" && count == 2) return run_frames();
-  if (name == "pairs" && count == 3) return pair_frames(std::strtoull(words[2], nullptr, 10));
+  if (name == "texts" && count == 3) return text_calls(std::strtoull(words[2], nullptr, 10));
   if (name == "call" && count == 2) return call_lines(false);
   if (name == "call" && count == 3 && std::strcmp(words[2], "literal") == 0) return call_lines(true);
   if (name == "replay" && count == 3) return replay_lines(std::strtoull(words[2], nullptr, 10));
@@ -159,6 +153,6 @@ int main(int count, char** words) {
   const int status = choose(count, words);
   if (status >= 0) return status;
   return fault(
-      "run | runs | pairs MOST | call [literal] | replay N | generate texts|searches|heavy|checks SEED COUNT | "
+      "run | texts MOST | call [literal] | replay N | generate texts|searches|heavy|checks SEED COUNT | "
       "time FILE [RUNS]");
 }

@@ -50,12 +50,12 @@ void test_frames() {
   }
 }
 
-// A text with its answer, and a limit that both just keep or just pass.
-void test_pairs() {
-  about("pairs");
-  CLAIM_TEXT(oracle::write_pair("a\n3", "none\n", 8), "text 3\na\n35\nnone\n");
-  CLAIM_TEXT(oracle::write_pair("", "none\n", 5), "text 0\n5\nnone\n");
-  CLAIM_TEXT(oracle::write_pair("a\n3", "none\n", 7), "");
+// The call of a text, and a limit that text and answer just keep or just pass.
+void test_texts() {
+  about("texts");
+  CLAIM_TEXT(oracle::write_text("a\n3", "none\n", 8), "text 3\na\n3");
+  CLAIM_TEXT(oracle::write_text("", "none\n", 5), "text 0\n");
+  CLAIM_TEXT(oracle::write_text("a\n3", "none\n", 7), "");
 }
 
 }  // namespace
@@ -63,7 +63,7 @@ void test_pairs() {
 void test_calls() {
   test_lines();
   test_frames();
-  test_pairs();
+  test_texts();
 }
 
 }  // namespace oracle_tests

@@ -1,27 +1,24 @@
-// The eight fields of an answer as numbers: read, compared and written.
-use crate::stream::Stream;
-use crate::stream::next_number;
+// An answer written in one line: its eight fields, the length of the lent table and its places, parted by blanks.
+use crate::stream::front;
+use libc::STDOUT_FILENO;
 use model::Answer;
+use words::put_byte;
+use words::put_number;
 
-// The eight fields of an answer, in the order of document 01.
-pub struct Fields {
-    pub values: [u64; 8],
+// A number and a blank, at a place of the line, where there is room for them; the place behind them.
+fn put(line: &mut [u8], at: usize, n: u64) -> usize {
+    if line.len() < 21 {
+        return at;
+    }
+    if line.len() - 21 < at {
+        return at;
+    }
+    let next = put_number(line, at, n);
+    put_byte(line, next, b' ')
 }
 
-// Eight fields and the stream after them.
-pub struct Wanted {
-    pub fields: Fields,
-    pub stream: Stream,
-}
-
-// The number of a vector in its file, from 1, and whether a difference is written.
-pub struct Told {
-    pub number: u32,
-    pub aloud: bool,
-}
-
-// The fields of an answer.
-pub fn fields_of(answer: Answer) -> Fields {
+// The eight fields, in the order of document 01.
+fn put_fields(line: &mut [u8], answer: Answer) -> usize {
     let values = [
         answer.number as u64,
         answer.place as u64,
@@ -32,71 +29,43 @@ pub fn fields_of(answer: Answer) -> Fields {
         answer.tries,
         answer.skipped as u64,
     ];
-    Fields { values }
-}
-
-// The next eight numbers.
-pub fn next_fields(buffer: &mut [u8], stream: Stream) -> Wanted {
-    let mut values = [0; 8];
-    let mut s = stream;
+    let mut next = 0;
     for i in 0..8usize {
-        let number = next_number(buffer, s, u64::MAX);
-        s = number.stream;
-        values[i] = number.value;
+        next = put(line, next, values[i]);
     }
-    let fields = Fields { values };
-    Wanted { fields, stream: s }
+    next
 }
 
-// Whether all eight fields are the same.
-pub fn same_fields(a: Fields, b: Fields) -> bool {
-    for i in 0..8usize {
-        if a.values[i] != b.values[i] {
-            return false;
-        }
+// A number of 32 bits, as above.
+fn put_small(line: &mut [u8], at: usize, n: u32) -> usize {
+    put(line, at, n as u64)
+}
+
+// A list of numbers, its length first.
+fn put_list(line: &mut [u8], at: usize, list: &[u32]) -> usize {
+    let mut next = put(line, at, list.len() as u64);
+    for i in 0..list.len() {
+        next = put_small(line, next, list[i]);
     }
-    true
+    next
 }
 
-// Writes a blank and a number.
-pub fn put_number(number: u64) {
-    io::write_all(1, b" ");
-    io::print_decimal(1, number);
-}
-
-// Writes the eight fields, each after a blank.
-fn put_fields(fields: Fields) {
-    for i in 0..8usize {
-        put_number(fields.values[i]);
-    }
-}
-
-// Writes what was got for a vector and what was wanted, if it is to be told.
-pub fn put_difference(told: Told, got: Fields, wanted: Fields) {
-    if !told.aloud {
+// Writes the line of so many bytes, whose last, a blank, becomes a line feed.
+fn write_line(line: &mut [u8], len: usize) {
+    if len < 1 {
         return;
     }
-    io::write_all(1, b"vector");
-    put_number(told.number as u64);
-    io::write_all(1, b" got");
-    put_fields(got);
-    io::write_all(1, b" wanted");
-    put_fields(wanted);
-    io::write_all(1, b"\n");
-}
-
-// Writes the first place of a vector's table that is not the wanted one, if it is to be told.
-pub fn put_place(told: Told, place: usize, got: u32, wanted: u32) {
-    if !told.aloud {
+    if line.len() < len {
         return;
     }
-    io::write_all(1, b"vector");
-    put_number(told.number as u64);
-    io::write_all(1, b" place");
-    put_number(place as u64);
-    io::write_all(1, b" got");
-    put_number(got as u64);
-    io::write_all(1, b" wanted");
-    put_number(wanted as u64);
-    io::write_all(1, b"\n");
+    line[len - 1] = b'\n';
+    io::write_all(STDOUT_FILENO, front(line, len));
+}
+
+// Writes the line of an answer and a table.
+pub fn put_answer(answer: Answer, table: &[u32]) {
+    let mut line = [0u8; 32768];
+    let fields = put_fields(&mut line, answer);
+    let len = put_list(&mut line, fields, table);
+    write_line(&mut line, len);
 }

@@ -1,13 +1,13 @@
-// A file of vectors, read byte by byte through a lent buffer: words, numbers, lists of numbers and texts.
+// Calls on standard input, read byte by byte through a lent buffer: words, numbers, lists of numbers and texts.
+use libc::STDIN_FILENO;
 ghost use Prim.Native.Nat.{_≤_};
 
 // The greatest number of 32 bits.
 const MOST: u64 = 4294967295;
 
-// Where a file is read: the next byte's place in the buffer, the end of the part that is filled, and whether
+// Where the input is read: the next byte's place in the buffer, the end of the part that is filled, and whether
 // everything read so far had the form that was asked for.
 pub struct Stream {
-    pub file: i32,
     pub at: usize,
     pub end: usize,
     pub good: bool,
@@ -37,46 +37,34 @@ pub struct List {
     pub stream: Stream,
 }
 
-// The stream at the first byte of an open file.
-pub fn opened(file: i32) -> Stream {
-    Stream {
-        file,
-        at: 0,
-        end: 0,
-        good: true,
-    }
-}
-
 // The stream after a fault: it stays bad.
 pub fn spoilt(stream: Stream) -> Stream {
     Stream {
-        file: stream.file,
         at: stream.at,
         end: stream.end,
         good: false,
     }
 }
 
-// The stream with its next byte in the buffer; the filled part is empty only where the file has ended.
+// The stream with its next byte in the buffer; the filled part is empty only where the input has ended.
 pub fn filled(buffer: &mut [u8], stream: Stream) -> Stream {
     if stream.at < stream.end {
         return stream;
     }
-    let end = io::read_full(stream.file, buffer);
+    let end = io::read_full(STDIN_FILENO, buffer);
     Stream {
-        file: stream.file,
         at: 0,
         end,
         good: stream.good,
     }
 }
 
-// Whether the file has ended, of a stream that was just filled.
+// Whether the input has ended, of a stream that was just filled.
 pub fn ended(stream: Stream) -> bool {
     stream.end <= stream.at
 }
 
-// The next byte; 0 and a spoilt stream where the file has ended.
+// The next byte; 0 and a spoilt stream where the input has ended.
 pub fn next_byte(buffer: &mut [u8], stream: Stream) -> Step {
     let s = filled(buffer, stream);
     let at = s.at;
@@ -85,7 +73,6 @@ pub fn next_byte(buffer: &mut [u8], stream: Stream) -> Step {
             return Step {
                 byte: buffer[at],
                 stream: Stream {
-                    file: s.file,
                     at: at + 1,
                     end: s.end,
                     good: s.good,
@@ -210,23 +197,6 @@ pub fn next_text(buffer: &mut [u8], stream: Stream, text: &mut [u8]) -> List {
         text[i] = step.byte;
     }
     List { len, stream: s }
-}
-
-// Whether a piece stands at a place of a text.
-pub fn stands_at(text: &[u8], at: usize, piece: &[u8]) -> bool {
-    if text.len() < at {
-        return false;
-    }
-    let rest = &text[at..];
-    if rest.len() < piece.len() {
-        return false;
-    }
-    for i in 0..piece.len() {
-        if rest[i] != piece[i] {
-            return false;
-        }
-    }
-    true
 }
 
 // The first bytes of an array.

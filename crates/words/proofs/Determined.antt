@@ -9,12 +9,15 @@ use denote.Triple.Clauses.{AtExit}
 use borrow.Fn.Kinds.{Dens, resT, endedOf}
 use lib.ListN.{length}
 use lib.Seq.{paste}
+use Rattle.digits.specs.Numbers.{decimal}
 use Rattle.words.specs.Fields.{field, timeField}
 use Rattle.words.specs.Writer.{Put}
 use Rattle.words.proofs.writing.put_byte.Reads as put-byte
 use Rattle.words.proofs.writing.put_byte.Kinds as put-byte-kinds
 use Rattle.words.proofs.writing.put_word.Reads as put-word
 use Rattle.words.proofs.writing.put_word.Kinds as put-word-kinds
+use Rattle.words.proofs.writing.put_number.Reads as put-number
+use Rattle.words.proofs.writing.put_number.Kinds as put-number-kinds
 use Rattle.words.proofs.writing.put_field.Reads as put-field
 use Rattle.words.proofs.writing.put_field.Kinds as put-field-kinds
 use Rattle.words.proofs.writing.put_time.Reads as put-time
@@ -46,6 +49,15 @@ pub put-word-determined : (κs λs : Lfts 2) (a : Dens κs put-word-kinds.ps) (b
     → now (a .0) ≡ now (b .0) → a .1 .0 ≡ b .1 .0 → now (a .1 .1 .0) ≡ now (b .1 .1 .0)
     → put-word.Post κs a x s → put-word.Post λs b y t → (x ≡ y) × (now (s .0) ≡ now (t .0))
 put-word-determined κs λs a b x y s t out at word p q = put-once _ _ _ _ _ _ _ _ _ _ _ _ out at word p q
+
+-- a number in digits
+pub put-number-determined : (κs λs : Lfts 1) (a : Dens κs put-number-kinds.ps) (b : Dens λs put-number-kinds.ps)
+    (x : resT put-number-kinds.r κs .Denot) (y : resT put-number-kinds.r λs .Denot)
+    (s : AtExit (endedOf 1 put-number-kinds.ps put-number-kinds.r) κs)
+    (t : AtExit (endedOf 1 put-number-kinds.ps put-number-kinds.r) λs)
+    → now (a .0) ≡ now (b .0) → a .1 .0 ≡ b .1 .0 → a .1 .1 .0 ≡ b .1 .1 .0
+    → put-number.Post κs a x s → put-number.Post λs b y t → (x ≡ y) × (now (s .0) ≡ now (t .0))
+put-number-determined κs λs a b x y s t out at n p q = put-once _ _ _ _ _ _ _ _ _ _ _ _ out at (ap decimal n) p q
 
 -- a number's field
 pub put-field-determined : (κs λs : Lfts 1) (a : Dens κs put-field-kinds.ps) (b : Dens λs put-field-kinds.ps)

@@ -13,5 +13,6 @@ pub use words::TAB;
 pub use words::TABLE;
 pub use writing::put_byte;
 pub use writing::put_field;
+pub use writing::put_number;
 pub use writing::put_time;
 pub use writing::put_word;
