@@ -1,5 +1,3 @@
--- The laws of the check.
-pub mod Walks
-pub mod Pairs
+-- The laws of the check, and that its answer is determined.
 pub mod Cases
 pub mod Determined

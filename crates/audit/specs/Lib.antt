@@ -1,3 +1,3 @@
--- The check of a table.
+-- The check of a table, and as the code makes it.
 pub mod Check
-pub mod Scan
+pub mod Verdict

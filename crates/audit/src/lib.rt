@@ -1,5 +1,4 @@
 // The check of a table.
-mod scan;
 mod verdict;
 
 pub use verdict::check;

@@ -1,7 +1,4 @@
 // The check: its refusals in order, then the two walks.
-use crate::scan::Pair;
-use crate::scan::first_meeting;
-use crate::scan::first_outside;
 use arrays::Flows;
 use arrays::Packets;
 use arrays::model_of;
@@ -10,11 +7,14 @@ use model::Mesh;
 use model::Refusal;
 use model::refused;
 use refusals::refusal;
+use walks::Pair;
+use walks::first_meeting;
+use walks::first_outside;
 ghost use mathlib.Core.Path.{_≡_};
 ghost use Prim.Native.Nat.{_≤_, _<_};
 ghost use Rattle.arrays.specs.Arrays.{Ready};
 ghost use Rattle.audit.specs.Check.{collided, passedWith, checkOf};
-ghost use Rattle.audit.specs.Scan.{verdictIn};
+ghost use Rattle.audit.specs.Verdict.{verdictIn};
 
 // The answer 12 of a pair.
 fn collision(pair: Pair) -> Answer

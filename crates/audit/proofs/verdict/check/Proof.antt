@@ -2,7 +2,7 @@
 use Rattle.model.specs.declared.answers.Refusal.{Refusal}
 use Rattle.arrays.specs.declared.build.Model.{Model}
 use Rattle.arrays.specs.Arrays.{Ready}
-use Rattle.audit.specs.Scan.{verdictIn}
+use Rattle.audit.specs.Verdict.{verdictIn}
 use mathlib.Core.Path.{sym, _∙_, ap, subst}
 use Rattle.refusals.specs.Refusals.{accepted}
 use Rattle.model.specs.Answers.{refusedBy}

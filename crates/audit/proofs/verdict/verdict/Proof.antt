@@ -7,9 +7,10 @@ use Rattle.basics.specs.First.{first}
 use Rattle.basics.proofs.First.{first-least}
 use Rattle.model.specs.Answers.{refusedBy}
 use Rattle.audit.specs.Check.{collided}
-use Rattle.audit.specs.Scan.{strays, firstPair, verdictIn}
-use Rattle.audit.specs.declared.scan.Pair.{Pair}
-use Rattle.audit.proofs.Pairs.{pair-small}
+use Rattle.walks.specs.Scan.{strays, firstPair}
+use Rattle.audit.specs.Verdict.{verdictIn}
+use Rattle.walks.specs.declared.scan.Pair.{Pair}
+use Rattle.walks.proofs.Pairs.{pair-small}
 use Rattle.audit.proofs.Cases.{by-10, by-11, by-12, by-0}
 use borrow.Author.Needs.{needs}
 use Rattle.audit.proofs.verdict.verdict.Statement.{statement}

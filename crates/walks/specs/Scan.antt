@@ -1,6 +1,6 @@
--- The check as the code walks it: over the packets that stand in the arrays of a model.
+-- The two walks of the check, over the packets that stand in the arrays of a model.
 use mathlib.Core.Path.{_≡_}
-use mathlib.Core.Bool.{Bool, true, false, not}
+use mathlib.Core.Bool.{Bool, false, not}
 use mathlib.Core.List.{List}
 use Prim.Native.Nat.{ℕ, _≤_, _<_}
 use lib.Dec.{ltb}
@@ -9,13 +9,10 @@ use Rattle.basics.specs.Choose.{both}
 use Rattle.basics.specs.First.{first, some}
 use Rattle.packet.specs.Packet.{mayStart, collide}
 use Rattle.packet.specs.Table.{timeAt}
-use Rattle.model.specs.Answers.{refusedBy}
 use Rattle.arrays.specs.Arrays.{packetIn, Ready}
 use Rattle.arrays.specs.declared.build.Flows.{Flows}
 use Rattle.arrays.specs.declared.build.Packets.{Packets}
-use Rattle.model.specs.declared.answers.Answer.{Answer}
-use Rattle.audit.specs.Check.{collided, passedWith}
-use Rattle.audit.specs.declared.scan.Pair.{Pair}
+use Rattle.walks.specs.declared.scan.Pair.{Pair}
 
 -- packet p of the arrays may not start at its time
 unfoldable pub strays : Flows → Packets → List ℕ → ℕ → Bool
@@ -35,25 +32,6 @@ firstPair flows packets table = record {
   a = first (higherIn flows packets table) (packets .count);
   b = first (meetsIn flows packets table (first (higherIn flows packets table) (packets .count))) (packets .count);
 }
-
--- the check from 10 on, by its numbers: the table's length, the packets, the lowest packet out of range, the lowest pair
-unfoldable pub verdictBy : ℕ → ℕ → ℕ → ℕ → ℕ → ℕ → Answer
-verdictBy hyper long n stray a b =
-    elim (ltb long n) [
-      | true ↦ refusedBy (record { number = 10; place = 0 })
-      | false ↦ elim (ltb stray n) [
-        | true ↦ refusedBy (record { number = 11; place = stray })
-        | false ↦ elim (ltb a n) [
-          | true ↦ collided a b
-          | false ↦ passedWith hyper n
-        ]
-      ]
-    ]
-
--- the check from 10 on, of the packets in the arrays
-unfoldable pub verdictIn : ℕ → Flows → Packets → List ℕ → Answer
-verdictIn hyper flows packets table =
-    verdictBy hyper (length table) (packets .count) (first (strays flows packets table) (packets .count)) (firstPair flows packets table .a) (firstPair flows packets table .b)
 
 -- what the walks ask: a model that the code can hold, and a table as long as its packets
 pub record Scan (flows : Flows) (packets : Packets) (table : List ℕ) : Type 0 where

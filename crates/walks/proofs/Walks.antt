@@ -18,7 +18,7 @@ use Rattle.packet.proofs.Packet.{start-done}
 use Rattle.arrays.specs.Arrays.{packetIn}
 use Rattle.arrays.specs.declared.build.Flows.{Flows}
 use Rattle.arrays.specs.declared.build.Packets.{Packets}
-use Rattle.audit.specs.Scan.{strays, meetsIn, Timely}
+use Rattle.walks.specs.Scan.{strays, meetsIn, Timely}
 
 -- ---- a time and its packet's range
 

@@ -7,7 +7,7 @@ use time::overlap;
 ghost use mathlib.Core.Path.{_≡_};
 ghost use Prim.Native.Nat.{_<_};
 ghost use Rattle.basics.specs.First.{first};
-ghost use Rattle.audit.specs.Scan.{strays, meetsIn, firstPair, Scan, Timely};
+ghost use Rattle.walks.specs.Scan.{strays, meetsIn, firstPair, Scan, Timely};
 
 // Two packets.
 pub struct Pair {

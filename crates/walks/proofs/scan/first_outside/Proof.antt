@@ -6,15 +6,15 @@ use Rattle.basics.proofs.First.{first-is, first-none}
 use Rattle.time.specs.Units.{latestOf}
 use Rattle.packet.specs.Table.{timeAt}
 use Rattle.arrays.specs.Arrays.{packetIn}
-use Rattle.audit.proofs.Walks.{early, late, timely}
+use Rattle.walks.proofs.Walks.{early, late, timely}
 use mathlib.Core.Path.{_≡_}
 use mathlib.Core.Bool.{false}
 use Prim.Native.Nat.{ℕ, _-_, _≤_, _<_}
 use native.Mathlib.Omega.{arith}
-use Rattle.audit.specs.Scan.{strays}
+use Rattle.walks.specs.Scan.{strays}
 use borrow.Author.Needs.{needs}
-use Rattle.audit.proofs.scan.first_outside.Statement.{statement}
-use Rattle.audit.proofs.scan.first_outside.Tie as tie
+use Rattle.walks.proofs.scan.first_outside.Statement.{statement}
+use Rattle.walks.proofs.scan.first_outside.Tie as tie
 
 abbrev Inv-loop : tie.InvT-loop
 Inv-loop table flows packets n p₀ p = (p ≤ packets .count) × ((k : ℕ) → k < p → strays flows packets table k ≡ false)

@@ -1,0 +1,2 @@
+-- The two walks of the check.
+pub mod Scan
