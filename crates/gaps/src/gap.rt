@@ -2,7 +2,7 @@
 use crate::marks::marked_on;
 ghost use mathlib.Core.Path.{_≡_};
 ghost use Prim.Native.Nat.{_<_};
-ghost use Rattle.stretches.specs.Busy.{busyOf, entry};
+ghost use Rattle.stretches.specs.Busy.{busyOf, farthest};
 ghost use Rattle.gaps.specs.Gaps.{firstGap, gapAt, Sweep};
 
 // Where a packet goes: the time taken, or nowhere; and how many times were tried.
@@ -20,7 +20,6 @@ pub fn sweep(
     from: &[u32; 1024],
     until: &[u32; 1024],
     who: &[u16; 1024],
-    longest: u32,
     marks: &[u8; 2048],
     lens: &[usize; 64],
     links: &[u16; 2048],
@@ -31,8 +30,8 @@ pub fn sweep(
     slots: u32,
     at: usize,
 ) -> Placed
-    requires { ⌜ Sweep (now lens) (now links) (now marks) (busyOf (now by) (now from) (now until) (now who) count longest) own span pruning begin at ⌝ }
-    ensures { λ r. ⌜ r ≡ gapAt pruning begin slots (firstGap (now (lens .entry)) (now (links .entry)) (busyOf (now (by .entry)) (now (from .entry)) (now (until .entry)) (now (who .entry)) count longest) own span pruning begin slots) ⌝ }
+    requires { ⌜ Sweep (now lens) (now links) (now marks) (busyOf (now by) (now from) (now until) (now who) count farthest) own span pruning begin at ⌝ }
+    ensures { λ r. ⌜ r ≡ gapAt pruning begin slots (firstGap (now (lens .entry)) (now (links .entry)) (busyOf (now (by .entry)) (now (from .entry)) (now (until .entry)) (now (who .entry)) count farthest) own span pruning begin slots) ⌝ }
 {
     let mut j = at;
     let mut i: u32 = 0;

@@ -20,10 +20,31 @@ use Rattle.time.specs.Window.{overlaps}
 use Rattle.packet.specs.Packet.{Packet, collide}
 use Rattle.packet.specs.Table.{packetAt, timeAt, placed}
 use Rattle.placing.specs.Placing.{inTheWay, free, timeOf, slotsOf, takenOf, placedBy, placingOf}
-use Rattle.stretches.specs.Busy.{pathIn, Busy, startOf, endOf, flowOf, Kept}
+use Rattle.stretches.specs.Busy.{pathIn, Busy, busyOf, farthest, startOf, endOf, flowOf, Kept}
 use Rattle.gaps.specs.Gaps.{hits, firstGap, gapAt}
 use Rattle.placing.specs.Held.{Load, flowAt, Held}
 use Rattle.stretches.specs.Covers.{Covers}
+
+-- kept stretches are kept with the greatest length for the longest
+pub kept-far : {by from until who : List ℕ} {count longest : ℕ} → Kept (busyOf by from until who count longest) → Kept (busyOf by from until who count farthest)
+kept-far kept = record {
+  order = kept .order;
+  by-long = kept .by-long;
+  from-long = kept .from-long;
+  until-long = kept .until-long;
+  who-long = kept .who-long;
+  flows = kept .flows;
+  filled = kept .filled;
+  soon = kept .soon;
+  short = λ j h. omega (arith, kept .soon j h);
+}
+
+-- the first gap does not depend on the longest
+pub gap-far : (lens links by from until who : List ℕ) (count longest g span f begin slots : ℕ)
+    → firstGap lens links (busyOf by from until who count farthest) g span f begin slots
+    ≡ firstGap lens links (busyOf by from until who count longest) g span f begin slots
+unfolding firstGap hits
+gap-far lens links by from until who count longest g span f begin slots = refl
 
 module _ {ps : List Packet} {load : Load} {release due : List ℕ} {b : Busy} {table : List ℕ} (held : Held ps load release due)
     (kept : Kept b) (covers : Covers ps (load .lens) (load .links) b table) {p : ℕ} (h : p < length ps) where

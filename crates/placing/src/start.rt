@@ -52,8 +52,7 @@ pub fn place(
     let span = occupancy[own];
     let slots = (due[own] - span) / pruning + 1;
     let count = extent.count;
-    let longest = extent.longest;
-    let at = not_over(by, count, from, begin, longest);
+    let at = not_over(by, count, from, begin, extent.longest);
     stamp(marks, lens, links, own);
     sweep(
         by,
@@ -61,7 +60,6 @@ pub fn place(
         from,
         until,
         who,
-        longest,
         marks,
         lens,
         links,

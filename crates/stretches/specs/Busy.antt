@@ -41,6 +41,10 @@ pub record Ordered (by : List ℕ) (count : ℕ) (from : List ℕ) : Type 0 wher
   pub listed : (j : ℕ) → j < count → getD by j 0 < count
   pub rising : (i j : ℕ) → i ≤ j → j < count → entry by from i ≤ entry by from j
 
+-- no stretch ends later than this, which is 2 × 16,777,216; so none is longer either
+abbrev pub farthest : ℕ
+farthest = 33554432
+
 -- so are they kept, in arrays of 1,024: none is empty, far away, or longer than the longest
 pub record Kept (b : Busy) : Type 0 where
   pub order : Ordered (b .by) (b .count) (b .from)
@@ -50,7 +54,7 @@ pub record Kept (b : Busy) : Type 0 where
   pub who-long : length (b .who) ≡ 1024
   pub flows : (j : ℕ) → j < b .count → flowOf b j < 64
   pub filled : (j : ℕ) → j < b .count → startOf b j < endOf b j
-  pub soon : (j : ℕ) → j < b .count → endOf b j ≤ 33554432
+  pub soon : (j : ℕ) → j < b .count → endOf b j ≤ farthest
   pub short : (j : ℕ) → j < b .count → endOf b j ≤ startOf b j + b .longest
 
 -- the paths of 64 flows, none longer than 32 links

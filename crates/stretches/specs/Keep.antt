@@ -7,7 +7,7 @@ use lib.ListN.{getD, set}
 use Rattle.basics.specs.Choose.{both, choose}
 use Rattle.basics.specs.First.{first, every}
 use Rattle.order.specs.Lists.{shifted}
-use Rattle.stretches.specs.Busy.{Busy, entry, startOf, Kept, Paths}
+use Rattle.stretches.specs.Busy.{Busy, farthest, entry, startOf, Kept, Paths}
 
 -- two flows have the same path
 unfoldable pub samePath : List ℕ → List ℕ → ℕ → ℕ → Bool
@@ -69,4 +69,4 @@ pub record Keep (lens links : List ℕ) (b : Busy) (g time end : ℕ) : Type 0 w
   pub room : b .count < 1024
   pub flow : g < 64
   pub lasting : time < end
-  pub soon : end ≤ 33554432
+  pub soon : end ≤ farthest

@@ -7,7 +7,7 @@ use lib.ListN.{getD}
 use native.Mathlib.Omega.{arith}
 use borrow.Author.Count.{below-none, below-more}
 use Rattle.mesh.specs.Share.{has}
-use Rattle.stretches.specs.Busy.{pathIn, busyOf, entry}
+use Rattle.stretches.specs.Busy.{pathIn, busyOf, farthest, entry}
 use Rattle.gaps.specs.Gaps.{Sweep}
 use Rattle.gaps.proofs.Sweeping.{Sweeping, sweep-start, sweep-over, sweep-clear, sweep-early, sweep-none}
 use Rattle.gaps.proofs.Facing.{Facing, facing-steps, facing-jump, facing-apart}
@@ -15,22 +15,22 @@ use Rattle.gaps.proofs.gap.sweep.Statement.{statement}
 use Rattle.gaps.proofs.gap.sweep.Tie as tie
 
 abbrev Inv-loop2 : tie.InvT-loop2
-Inv-loop2 by count from until who longest marks lens links own span pruning begin slots at j₀ i₀ t₀ k end other a₀ a-end j i t a = Sweep lens links marks (busyOf by from until who count longest) own span pruning begin at × Sweeping lens links (busyOf by from until who count longest) own span pruning begin j i t × Facing (busyOf by from until who count longest) span j t other end × (i < slots) × (j₀ ≤ j) × (a ≤ a-end) × ((m : ℕ) → m < a → has (pathIn lens links own) (getD links (other * 32 + m) 0) ≡ false) × (a-end ≡ getD lens other 0) × (a-end ≤ 32)
+Inv-loop2 by count from until who marks lens links own span pruning begin slots at j₀ i₀ t₀ k end other a₀ a-end j i t a = Sweep lens links marks (busyOf by from until who count farthest) own span pruning begin at × Sweeping lens links (busyOf by from until who count farthest) own span pruning begin j i t × Facing (busyOf by from until who count farthest) span j t other end × (i < slots) × (j₀ ≤ j) × (a ≤ a-end) × ((m : ℕ) → m < a → has (pathIn lens links own) (getD links (other * 32 + m) 0) ≡ false) × (a-end ≡ getD lens other 0) × (a-end ≤ 32)
 
 abbrev μ-loop2 : tie.MeasureT-loop2
-μ-loop2 by count from until who longest marks lens links own span pruning begin slots at j₀ i₀ t₀ k end other a₀ a-end j i t a = a-end - a
+μ-loop2 by count from until who marks lens links own span pruning begin slots at j₀ i₀ t₀ k end other a₀ a-end j i t a = a-end - a
 
 abbrev Inv-loop : tie.InvT-loop
-Inv-loop by count from until who longest marks lens links own span pruning begin slots at j₀ i₀ t₀ j i t = Sweep lens links marks (busyOf by from until who count longest) own span pruning begin at × Sweeping lens links (busyOf by from until who count longest) own span pruning begin j i t × (i < slots) × (j₀ ≤ j)
+Inv-loop by count from until who marks lens links own span pruning begin slots at j₀ i₀ t₀ j i t = Sweep lens links marks (busyOf by from until who count farthest) own span pruning begin at × Sweeping lens links (busyOf by from until who count farthest) own span pruning begin j i t × (i < slots) × (j₀ ≤ j)
 
 abbrev μ-loop : tie.MeasureT-loop
-μ-loop by count from until who longest marks lens links own span pruning begin slots at j₀ i₀ t₀ j i t = count - j
+μ-loop by count from until who marks lens links own span pruning begin slots at j₀ i₀ t₀ j i t = count - j
 
 abbrev Inv-times : tie.InvT-times
-Inv-times by count from until who longest marks lens links own span pruning begin slots at j₀ i₀ t₀ j i t = Sweep lens links marks (busyOf by from until who count longest) own span pruning begin at × Sweeping lens links (busyOf by from until who count longest) own span pruning begin j i t
+Inv-times by count from until who marks lens links own span pruning begin slots at j₀ i₀ t₀ j i t = Sweep lens links marks (busyOf by from until who count farthest) own span pruning begin at × Sweeping lens links (busyOf by from until who count farthest) own span pruning begin j i t
 
 abbrev μ-times : tie.MeasureT-times
-μ-times by count from until who longest marks lens links own span pruning begin slots at j₀ i₀ t₀ j i t = count - j
+μ-times by count from until who marks lens links own span pruning begin slots at j₀ i₀ t₀ j i t = count - j
 
 times-holds : tie.Need-times-holds Inv-loop2 μ-loop2 Inv-loop μ-loop Inv-times μ-times
 times-holds c = (c .pre, sweep-start (c .pre))
@@ -56,8 +56,8 @@ mul-if2 c = let l = c .before .before .loop .inv .0 .kept .order in omega (arith
 element-copy-out-if2 : tie.Need-element-copy-out-if2 Inv-loop2 μ-loop2 Inv-loop μ-loop Inv-times μ-times
 element-copy-out-if2 c = let l = c .before .before .loop .inv .0 .kept .order in omega (arith, l .few, l .listed (c .before .before .loop .j) (c .before .loop-test .taken))
 
-add-t35 : tie.Need-add-t35 Inv-loop2 μ-loop2 Inv-loop μ-loop Inv-times μ-times
-add-t35 c = let s = c .before .before .before .before .loop .inv .1 in omega (arith, s .small, s .fits)
+add-t34 : tie.Need-add-t34 Inv-loop2 μ-loop2 Inv-loop μ-loop Inv-times μ-times
+add-t34 c = let s = c .before .before .before .before .loop .inv .1 in omega (arith, s .small, s .fits)
 
 mul-end : tie.Need-mul-end Inv-loop2 μ-loop2 Inv-loop μ-loop Inv-times μ-times
 mul-end c = let l = c .before .before .before .before .loop .inv .0 .kept .order in omega (arith, l .few, l .listed (c .before .before .before .before .loop .j) (c .before .before .before .loop-test .taken))
@@ -165,8 +165,8 @@ loop-less-2 c = let s = c .before .loop2 .inv in omega (arith, s .4, s .2 .next)
 loop-again-2 : tie.Need-loop-again-2 Inv-loop2 μ-loop2 Inv-loop μ-loop Inv-times μ-times
 loop-again-2 c = let s = c .before .loop2 .inv in (s .0, facing-apart (s .0) (s .1) (s .2) (λ m h. s .6 m (omega (arith, c .loop2-test .left, s .7))), s .3, omega (arith, c .before .before .before .before .before .before .before .before .before .before .loop .inv .3, s .4))
 
-add-t55 : tie.Need-add-t55 Inv-loop2 μ-loop2 Inv-loop μ-loop Inv-times μ-times
-add-t55 c = let s = c .before .loop .inv .1 in omega (arith, s .small, s .fits)
+add-t54 : tie.Need-add-t54 Inv-loop2 μ-loop2 Inv-loop μ-loop Inv-times μ-times
+add-t54 c = let s = c .before .loop .inv .1 in omega (arith, s .small, s .fits)
 
 returns : tie.Need-returns Inv-loop2 μ-loop2 Inv-loop μ-loop Inv-times μ-times
 returns c = sweep-none (c .before .times .inv .1) _ (c .if1 .taken)
@@ -196,7 +196,7 @@ sweep-spec =
     add-if2
     mul-if2
     element-copy-out-if2
-    add-t35
+    add-t34
     mul-end
     element-copy-out-end
     add-j
@@ -229,7 +229,7 @@ sweep-spec =
     add-j-3
     loop-less-2
     loop-again-2
-    add-t55
+    add-t54
     returns
     returns-2
     returns-3)

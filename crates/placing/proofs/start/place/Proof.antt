@@ -1,14 +1,14 @@
 -- `place` marks the links of its path and sweeps from the first stretch that may not be over; its first gap is the taken time (proofs/Bridging.antt).
 use native.Mathlib.Omega.{arith}
 use native.Mathlib.Nat.{div-le-self}
-use mathlib.Core.Path.{refl, sym, _∙_, subst}
+use mathlib.Core.Path.{refl, sym, _∙_, ap, subst}
 use mathlib.Core.List.{List}
 use Prim.Native.Nat.{ℕ, _-_}
 use lib.ListN.{getD}
-use Rattle.gaps.specs.Gaps.{Marked}
+use Rattle.gaps.specs.Gaps.{gapAt, Marked}
 use Rattle.placing.specs.Held.{flowAt}
 use Rattle.gaps.proofs.Marking.{marked-stamped}
-use Rattle.placing.proofs.Bridging.{placing-same}
+use Rattle.placing.proofs.Bridging.{kept-far, gap-far, placing-same}
 use borrow.Author.Needs.{needs}
 use Rattle.placing.proofs.start.place.Statement.{statement}
 use Rattle.placing.proofs.start.place.Tie as tie
@@ -58,11 +58,11 @@ stamp-requires : tie.Need-stamp-requires
 stamp-requires c κs = (c .before .before .before .before .before .before .pre .loaded .paths, c .before .before .before .before .before .before .pre .loaded .flows (c .before .before .before .before .before .before .args .p) (c .before .before .before .before .before .before .pre .packet), c .before .before .before .before .before .before .pre .marks-long)
 
 sweep-requires : tie.Need-sweep-requires
-sweep-requires c κs = record { marked = subst (λ (m : List ℕ). Marked (c .before .before .before .before .before .before .before .before .args .lens .now) (c .before .before .before .before .before .before .before .before .args .links .now) m (getD (c .before .before .before .before .before .before .before .before .args .flow .now) (c .before .before .before .before .before .before .before .before .args .p) 0)) (sym (c .before .stamp .ensures)) (marked-stamped _ _ _ _ (c .before .before .before .before .before .before .before .before .pre .marks-long)); paths = c .before .before .before .before .before .before .before .before .pre .loaded .paths; kept = c .before .before .before .before .before .before .before .before .pre .kept; flow = c .before .before .before .before .before .before .before .before .pre .loaded .flows (c .before .before .before .before .before .before .before .before .args .p) (c .before .before .before .before .before .before .before .before .pre .packet); small-span = c .before .before .before .before .before .before .before .before .pre .loaded .spans _ (c .before .before .before .before .before .before .before .before .pre .loaded .flows (c .before .before .before .before .before .before .before .before .args .p) (c .before .before .before .before .before .before .before .before .pre .packet)); some-step = c .before .before .before .before .before .before .before .before .pre .some-step; small-step = c .before .before .before .before .before .before .before .before .pre .small-step; soon = c .before .before .before .before .before .before .before .before .pre .soon; within = c .before .before .before .not-over .ensures .within; over = λ j h. omega (arith, c .before .before .before .not-over .ensures .over j h, c .before .before .before .before .before .before .before .before .pre .kept .short j (omega (arith, c .before .before .before .not-over .ensures .within))) }
+sweep-requires c κs = record { marked = subst (λ (m : List ℕ). Marked (c .before .before .before .before .before .before .before .before .args .lens .now) (c .before .before .before .before .before .before .before .before .args .links .now) m (getD (c .before .before .before .before .before .before .before .before .args .flow .now) (c .before .before .before .before .before .before .before .before .args .p) 0)) (sym (c .before .stamp .ensures)) (marked-stamped _ _ _ _ (c .before .before .before .before .before .before .before .before .pre .marks-long)); paths = c .before .before .before .before .before .before .before .before .pre .loaded .paths; kept = kept-far (c .before .before .before .before .before .before .before .before .pre .kept); flow = c .before .before .before .before .before .before .before .before .pre .loaded .flows (c .before .before .before .before .before .before .before .before .args .p) (c .before .before .before .before .before .before .before .before .pre .packet); small-span = c .before .before .before .before .before .before .before .before .pre .loaded .spans _ (c .before .before .before .before .before .before .before .before .pre .loaded .flows (c .before .before .before .before .before .before .before .before .args .p) (c .before .before .before .before .before .before .before .before .pre .packet)); some-step = c .before .before .before .before .before .before .before .before .pre .some-step; small-step = c .before .before .before .before .before .before .before .before .pre .small-step; soon = c .before .before .before .before .before .before .before .before .pre .soon; within = c .before .before .before .not-over .ensures .within; over = λ j h. omega (arith, c .before .before .before .not-over .ensures .over j h, c .before .before .before .before .before .before .before .before .pre .kept .short j (omega (arith, c .before .before .before .not-over .ensures .within))) }
 
 returns : tie.Need-returns
 unfolding flowAt
-returns c = (c .before .before .stamp .ensures, λ ps table held covers h. c .sweep .ensures ∙ placing-same held (c .before .before .before .before .before .before .before .before .before .pre .kept) covers h (c .before .before .before .before .before .before .before .before .before .args .pruning) _ refl)
+returns c = (c .before .before .stamp .ensures, λ ps table held covers h. c .sweep .ensures ∙ ap (gapAt _ _ _) (gap-far _ _ _ _ _ _ _ _ _ _ _ _ _) ∙ placing-same held (c .before .before .before .before .before .before .before .before .before .pre .kept) covers h (c .before .before .before .before .before .before .before .before .before .args .pruning) _ refl)
 
 pub place-spec : {M : Type 1} → statement M
 place-spec =
