@@ -13,12 +13,12 @@ use Rattle.gaps.specs.declared.gap.Placed.{Placed}
 use Rattle.gaps.specs.declared.gap.Placed.the-variants.{At, Nowhere}
 use Rattle.stretches.specs.Busy.{pathIn, Busy, startOf, endOf, flowOf, Kept, Paths}
 
--- a packet of flow g that holds its links for so many cycles from t on collides with it
+-- a packet of flow g that holds its links for so many cycles from t on collides with the stretch that comes j-th
 unfoldable pub hits : List ℕ → List ℕ → Busy → ℕ → ℕ → ℕ → ℕ → Bool
 hits lens links b g span t j =
     both (both (ltb t (endOf b j)) (ltb (startOf b j) (t + span))) (shares (pathIn lens links g) (pathIn lens links (flowOf b j)))
 
--- which of the times begin, begin + F and so on, of so many, is the first at which it collides with none
+-- which of the times begin, begin + F and so on, of so many, is the first at which it collides with no stretch
 unfoldable pub firstGap : List ℕ → List ℕ → Busy → ℕ → ℕ → ℕ → ℕ → ℕ → ℕ
 firstGap lens links b g span f begin slots = first (λ i. not (some (hits lens links b g span (begin + i * f)) (b .count))) slots
 

@@ -9,7 +9,7 @@ ghost use mathlib.Core.List.{List};
 ghost use Prim.Native.Nat.{ℕ, _<_};
 ghost use lib.ListN.{length, getD};
 ghost use Rattle.packet.specs.Packet.{Packet};
-ghost use Rattle.stretches.specs.Busy.{busyOf, entry, Ordered};
+ghost use Rattle.stretches.specs.Busy.{busyOf, Ordered};
 ghost use Rattle.gaps.specs.Gaps.{stamped};
 ghost use Rattle.placing.specs.Held.{Over, loadOf, Held, Place};
 ghost use Rattle.placing.specs.Placing.{placingOf};
