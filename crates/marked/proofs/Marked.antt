@@ -20,7 +20,8 @@ use Rattle.refusals.specs.Refusals.{outsideOf, badMesh, badList, badNodes, badT
 use Rattle.model.specs.Answers.{refusedBy}
 use Rattle.placing.specs.Placing.{inTheWay, free, timeOf, slotsOf, takenOf, placedBy, placingOf}
 use Rattle.order.specs.Order.{insert, sorted, slackOf, slackAt}
-use Rattle.passes.specs.Pass.{raised, passFrom, passOver}
+use Rattle.settling.specs.Settling.{raised}
+use Rattle.passes.specs.Pass.{passFrom, passOver}
 use Rattle.passes.specs.Passes.{passesFrom, ceiling, searchBy, skippedIn, lowestSkipped}
 use Rattle.search.specs.Answering.{badSettings, settingsRefusal, badTable, searchRefusal, numberFor, placeFor, foundAnswer, answerOf, tableAfter}
 use Rattle.audit.specs.Check.{tooShort, checkRefusal, collided, passedWith, firstMeeting, verdictOf, checkOf}

@@ -11,7 +11,8 @@ use Rattle.packet.specs.Packet.{Packet}
 use Rattle.placing.specs.Placing.{placingOf}
 use Rattle.gaps.specs.declared.gap.Placed.{Placed}
 use Rattle.gaps.specs.declared.gap.Placed.the-variants.{At, Nowhere}
-use Rattle.passes.specs.Pass.{Pass, raised, passFrom}
+use Rattle.passes.specs.Pass.{Pass, passFrom}
+use Rattle.settling.specs.Settling.{raised}
 use Rattle.passes.proofs.PassSteps.{pass-placed, pass-broken, pass-skipped}
 
 module _ (ps : List Packet) (f g : ℕ) where

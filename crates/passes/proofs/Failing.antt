@@ -19,9 +19,10 @@ use Rattle.order.proofs.Shifting.{shifted-length}
 use Rattle.order.proofs.Ordering.{occurs-append}
 use Rattle.gaps.specs.declared.gap.Placed.{Placed}
 use Rattle.gaps.specs.declared.gap.Placed.the-variants.{Nowhere}
-use Rattle.passes.specs.Pass.{raised, passFrom}
-use Rattle.passes.specs.State.{State, stateOf, outcome, turnedAway, Ready, Carried, Going, Stepped}
-use Rattle.passes.specs.declared.walk.Walk.{Walk}
+use Rattle.settling.specs.Settling.{raised, turnedAway}
+use Rattle.passes.specs.Pass.{passFrom}
+use Rattle.passes.specs.State.{State, stateOf, outcome, Ready, Carried, Going, Stepped}
+use Rattle.settling.specs.declared.taking.Walk.{Walk}
 use Rattle.passes.proofs.Parts.{list-moved, list-without, taken-moved, rest-moved, list-occurs, each-moved}
 use Rattle.passes.proofs.Stepping.{nextOf, long, next-in, list-once, behind, rises, here, latest-small}
 use Rattle.passes.proofs.PassSteps.{pass-broken, pass-skipped, placing-nowhere, slots-few}

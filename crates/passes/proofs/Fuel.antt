@@ -13,7 +13,8 @@ use lib.Seq.{getD-set-same, getD-set-other}
 use Rattle.basics.specs.Sums.{sumOf}
 use Rattle.basics.proofs.Each.{Each}
 use Rattle.packet.specs.Packet.{Packet}
-use Rattle.passes.specs.Pass.{raised, passFrom, passOver}
+use Rattle.settling.specs.Settling.{raised}
+use Rattle.passes.specs.Pass.{passFrom, passOver}
 use Rattle.passes.specs.Passes.{passesFrom}
 use Rattle.passes.proofs.Along.{along, fails-length, list-each}
 

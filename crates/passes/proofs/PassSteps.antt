@@ -13,7 +13,8 @@ use Rattle.packet.specs.Packet.{Packet}
 use Rattle.packet.specs.Table.{packetAt}
 use Rattle.placing.specs.Placing.{timeOf, slotsOf, takenOf, placedBy, placingOf}
 use Rattle.gaps.specs.declared.gap.Placed.the-variants.{At, Nowhere}
-use Rattle.passes.specs.Pass.{raised, passFrom}
+use Rattle.settling.specs.Settling.{raised}
+use Rattle.passes.specs.Pass.{passFrom}
 
 module _ (ps : List Packet) (f g p : ℕ) (rest kept fails table : List ℕ) (tries m : ℕ) where
   -- a packet that is placed stays in the list

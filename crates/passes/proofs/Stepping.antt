@@ -23,8 +23,9 @@ use Rattle.stretches.proofs.Covering.{placed-other, Taking}
 use Rattle.stretches.proofs.Growing.{kept-more, count-more, covers-more}
 use Rattle.gaps.specs.declared.gap.Placed.{Placed}
 use Rattle.gaps.specs.declared.gap.Placed.the-variants.{At}
-use Rattle.passes.specs.Pass.{raised, passFrom}
-use Rattle.passes.specs.State.{State, outcome, spanAt, Ready, Going, Settles, Stepped}
+use Rattle.settling.specs.Settling.{raised, spanAt, Settles}
+use Rattle.passes.specs.Pass.{passFrom}
+use Rattle.passes.specs.State.{State, outcome, Ready, Going, Stepped}
 use Rattle.passes.proofs.Parts.{rest-next, taken-more, list-occurs}
 use Rattle.passes.proofs.PassSteps.{pass-placed, Taken, placing-at, slots-few, time-latest}
 

@@ -3,10 +3,11 @@ use mathlib.Core.Bool.{Bool, true, false}
 use mathlib.Core.List.{List, [], _∷_, _++_}
 use Prim.Native.Nat.{ℕ, _+_}
 use lib.Dec.{ltb}
-use lib.ListN.{length, getD, set, replicate}
+use lib.ListN.{length, set, replicate}
 use Rattle.packet.specs.Packet.{Packet}
 use Rattle.packet.specs.Table.{none}
 use Rattle.placing.specs.Placing.{placingOf}
+use Rattle.settling.specs.Settling.{raised}
 use Rattle.gaps.specs.declared.gap.Placed.the-variants.{At, Nowhere}
 
 -- what a pass leaves: whether it ran to the end of its list, the list, the fail counts, the table, and the times tried
@@ -16,10 +17,6 @@ pub record Pass : Type 0 where
   pub fails : List ℕ
   pub table : List ℕ
   pub tries : ℕ
-
--- the fail count of packet p once it has risen by one
-unfoldable pub raised : List ℕ → ℕ → ℕ
-raised fails p = getD fails p 0 + 1
 
 -- a pass from where it stands: the packets still to be taken in list order, those taken so far that stay in the list, the fail
 -- counts, the table, and the times tried

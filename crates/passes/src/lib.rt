@@ -4,4 +4,3 @@ mod walk;
 
 pub use repeat::Outcome;
 pub use repeat::rounds;
-pub use walk::NONE;

@@ -1,7 +1,7 @@
 // The table written, and what the answer says of it.
 use model::Answer;
-use passes::NONE;
 use passes::Outcome;
+use settling::NONE;
 ghost use mathlib.Core.Path.{_≡_};
 ghost use mathlib.Core.Bool.{not};
 ghost use mathlib.Core.List.{_++_};

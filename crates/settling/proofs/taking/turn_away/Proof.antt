@@ -2,10 +2,10 @@
 use mathlib.Core.Path.{refl, sym}
 use native.Mathlib.Omega.{arith}
 use borrow.Author.Tests.{lt-ltb, le-ltb}
-use Rattle.passes.specs.State.{turnedAway}
+use Rattle.settling.specs.Settling.{turnedAway}
 use borrow.Author.Needs.{needs}
-use Rattle.passes.proofs.walk.turn_away.Statement.{statement}
-use Rattle.passes.proofs.walk.turn_away.Tie as tie
+use Rattle.settling.proofs.taking.turn_away.Statement.{statement}
+use Rattle.settling.proofs.taking.turn_away.Tie as tie
 
 raise-requires : tie.Need-raise-requires
 raise-requires c κs = c .before .before .pre .raises

@@ -2,8 +2,8 @@
 use mathlib.Core.Path.{refl, ap}
 use Prim.Native.Nat.{ℕ}
 use lib.ListN.{replicate}
-use Rattle.passes.proofs.walk.no_times.Statement.{statement}
-use Rattle.passes.proofs.walk.no_times.Tie as tie
+use Rattle.settling.proofs.taking.no_times.Statement.{statement}
+use Rattle.settling.proofs.taking.no_times.Tie as tie
 
 returns : tie.Need-returns
 returns c = ap (λ (x : ℕ). replicate 1024 x) refl

@@ -1,9 +1,9 @@
 -- `raise` stores the fail count with one added.
 use mathlib.Core.Path.{refl}
-use Rattle.passes.specs.Pass.{raised}
+use Rattle.settling.specs.Settling.{raised}
 use borrow.Author.Needs.{needs}
-use Rattle.passes.proofs.walk.raise.Statement.{statement}
-use Rattle.passes.proofs.walk.raise.Tie as tie
+use Rattle.settling.proofs.taking.raise.Statement.{statement}
+use Rattle.settling.proofs.taking.raise.Tie as tie
 
 element-copy-out-fail : tie.Need-element-copy-out-fail
 element-copy-out-fail c = search needs

@@ -2,10 +2,10 @@
 use mathlib.Core.Path.{refl}
 use native.Mathlib.Omega.{arith}
 use Rattle.placing.specs.Held.{flowAt}
-use Rattle.passes.specs.State.{spanAt}
+use Rattle.settling.specs.Settling.{spanAt}
 use borrow.Author.Needs.{needs}
-use Rattle.passes.proofs.walk.settle.Statement.{statement}
-use Rattle.passes.proofs.walk.settle.Tie as tie
+use Rattle.settling.proofs.taking.settle.Statement.{statement}
+use Rattle.settling.proofs.taking.settle.Tie as tie
 
 mul-own : tie.Need-mul-own
 mul-own c = search needs

@@ -1,0 +1,2 @@
+-- Every answer is determined.
+pub mod Determined

@@ -1,0 +1,2 @@
+-- A packet takes a time, or is turned away.
+pub mod Settling
