@@ -26,7 +26,8 @@ use Rattle.arrays.proofs.Reading.{model-count, packet-in}
 use Rattle.refusals.proofs.Order.{or-next, or-stays, refuse-not, refuse-by}
 use Rattle.refusals.proofs.Accepted.{fair-accepted}
 use Rattle.audit.specs.Check.{tooShort, checkRefusal, collided, passedWith, firstMeeting, verdictOf, checkOf}
-use Rattle.walks.specs.Scan.{strays, meetsIn, higherIn, firstPair}
+use Rattle.ranges.specs.Ranges.{strays}
+use Rattle.pairs.specs.Scan.{meetsIn, higherIn, firstPair}
 use Rattle.audit.specs.Verdict.{verdictBy, verdictIn}
 
 -- ---- the verdict by its numbers

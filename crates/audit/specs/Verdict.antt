@@ -10,7 +10,8 @@ use Rattle.arrays.specs.declared.build.Flows.{Flows}
 use Rattle.arrays.specs.declared.build.Packets.{Packets}
 use Rattle.model.specs.declared.answers.Answer.{Answer}
 use Rattle.audit.specs.Check.{collided, passedWith}
-use Rattle.walks.specs.Scan.{strays, firstPair}
+use Rattle.ranges.specs.Ranges.{strays}
+use Rattle.pairs.specs.Scan.{firstPair}
 
 -- the check from 10 on, by its numbers: the table's length, the packets, the lowest packet out of range, the lowest pair
 unfoldable pub verdictBy : ℕ → ℕ → ℕ → ℕ → ℕ → ℕ → Answer

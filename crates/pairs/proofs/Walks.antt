@@ -1,41 +1,23 @@
--- The tests of the two walks, as the code takes them apart: a time before the release, a time after the latest start, and
--- two packets whose windows overlap and whose paths share a link.
+-- The tests of the walk over pairs, as the code takes them apart: two packets whose windows overlap and whose paths share a link.
 use mathlib.Core.Path.{_≡_, ap}
-use mathlib.Core.Bool.{Bool, true, false, not}
+use mathlib.Core.Bool.{Bool, true, false}
 use mathlib.Core.List.{List}
 use Prim.Native.Nat.{ℕ, _+_, _≤_, _<_}
 use native.Mathlib.Omega.{arith}
-use lib.Dec.{leb, ltb}
-use borrow.Author.Tests.{le-leb, lt-leb, lt-ltb, le-ltb, not-false}
+use lib.Dec.{ltb}
+use borrow.Author.Tests.{lt-ltb, le-ltb, not-false}
 use Rattle.basics.specs.Choose.{both}
 use Rattle.basics.proofs.Choose.{both-pass, both-not}
 use Rattle.mesh.specs.Share.{shares}
-use Rattle.time.specs.Units.{latestOf}
 use Rattle.time.specs.Window.{overlaps}
-use Rattle.packet.specs.Packet.{Packet, mayStart, collide}
+use Rattle.packet.specs.Packet.{collide}
 use Rattle.packet.specs.Table.{timeAt}
 use Rattle.packet.proofs.Packet.{start-done}
 use Rattle.arrays.specs.Arrays.{packetIn}
 use Rattle.arrays.specs.declared.build.Flows.{Flows}
 use Rattle.arrays.specs.declared.build.Packets.{Packets}
-use Rattle.walks.specs.Scan.{strays, meetsIn, Timely}
-
--- ---- a time and its packet's range
-
--- a time before the release is outside
-pub early : (q : Packet) (s : ℕ) → s < q .release → not (mayStart q s) ≡ true
-unfolding mayStart
-early q s h = ap (λ (t : Bool). not (both t (leb s (latestOf (q .deadline) (q .occupancy))))) (lt-leb (q .release) s h)
-
--- a time after the latest start is outside
-pub late : (q : Packet) (s : ℕ) → latestOf (q .deadline) (q .occupancy) < s → not (mayStart q s) ≡ true
-unfolding mayStart
-late q s h = ap not (both-not (leb (q .release) s) _ (lt-leb s (latestOf (q .deadline) (q .occupancy)) h))
-
--- a time from the release up to the latest start is inside
-pub timely : (q : Packet) (s : ℕ) → q .release ≤ s → s ≤ latestOf (q .deadline) (q .occupancy) → not (mayStart q s) ≡ false
-unfolding mayStart
-timely q s h k = ap not (both-pass _ _ (le-leb (q .release) s h) (le-leb s (latestOf (q .deadline) (q .occupancy)) k))
+use Rattle.ranges.specs.Ranges.{strays}
+use Rattle.pairs.specs.Scan.{meetsIn, Timely}
 
 -- a packet whose time is in range is over by 16,777,216
 pub over-soon : (flows : Flows) (packets : Packets) (table : List ℕ) → Timely flows packets table → (p : ℕ) → p < packets .count

@@ -1,22 +1,18 @@
--- The two walks of the check, over the packets that stand in the arrays of a model.
+-- The walk over pairs, of the packets that stand in the arrays of a model.
 use mathlib.Core.Path.{_≡_}
-use mathlib.Core.Bool.{Bool, false, not}
+use mathlib.Core.Bool.{Bool, false}
 use mathlib.Core.List.{List}
-use Prim.Native.Nat.{ℕ, _≤_, _<_}
+use Prim.Native.Nat.{ℕ, _<_}
 use lib.Dec.{ltb}
-use lib.ListN.{length}
 use Rattle.basics.specs.Choose.{both}
 use Rattle.basics.specs.First.{first, some}
-use Rattle.packet.specs.Packet.{mayStart, collide}
+use Rattle.packet.specs.Packet.{collide}
 use Rattle.packet.specs.Table.{timeAt}
-use Rattle.arrays.specs.Arrays.{packetIn, Ready}
+use Rattle.arrays.specs.Arrays.{packetIn}
 use Rattle.arrays.specs.declared.build.Flows.{Flows}
 use Rattle.arrays.specs.declared.build.Packets.{Packets}
-use Rattle.walks.specs.declared.scan.Pair.{Pair}
-
--- packet p of the arrays may not start at its time
-unfoldable pub strays : Flows → Packets → List ℕ → ℕ → Bool
-strays flows packets table p = not (mayStart (packetIn flows packets p) (timeAt table p))
+use Rattle.ranges.specs.Ranges.{strays, Scan}
+use Rattle.pairs.specs.declared.scan.Pair.{Pair}
 
 -- packet a of the arrays collides with the higher-numbered packet b
 unfoldable pub meetsIn : Flows → Packets → List ℕ → ℕ → ℕ → Bool
@@ -32,11 +28,6 @@ firstPair flows packets table = record {
   a = first (higherIn flows packets table) (packets .count);
   b = first (meetsIn flows packets table (first (higherIn flows packets table) (packets .count))) (packets .count);
 }
-
--- what the walks ask: a model that the code can hold, and a table as long as its packets
-pub record Scan (flows : Flows) (packets : Packets) (table : List ℕ) : Type 0 where
-  pub ready : Ready flows packets
-  pub long : packets .count ≤ length table
 
 -- what the walk over pairs asks besides: every time is known to be in range before anything is added to it
 pub record Timely (flows : Flows) (packets : Packets) (table : List ℕ) : Type 0 where

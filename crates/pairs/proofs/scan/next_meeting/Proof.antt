@@ -5,15 +5,15 @@ use borrow.Author.Count.{below-more}
 use Rattle.basics.proofs.First.{first-is, first-none}
 use Rattle.packet.specs.Table.{timeAt}
 use Rattle.arrays.specs.Arrays.{packetIn}
-use Rattle.walks.proofs.Walks.{over-soon, not-lower, not-overlapping, not-sharing, met}
+use Rattle.pairs.proofs.Walks.{over-soon, not-lower, not-overlapping, not-sharing, met}
 use mathlib.Core.Path.{_≡_}
 use mathlib.Core.Bool.{false}
 use Prim.Native.Nat.{ℕ, _-_, _≤_, _<_}
 use native.Mathlib.Omega.{arith}
-use Rattle.walks.specs.Scan.{meetsIn}
+use Rattle.pairs.specs.Scan.{meetsIn}
 use borrow.Author.Needs.{needs}
-use Rattle.walks.proofs.scan.next_meeting.Statement.{statement}
-use Rattle.walks.proofs.scan.next_meeting.Tie as tie
+use Rattle.pairs.proofs.scan.next_meeting.Statement.{statement}
+use Rattle.pairs.proofs.scan.next_meeting.Tie as tie
 
 abbrev Inv-loop : tie.InvT-loop
 Inv-loop table a flows packets n f window path b₀ b = (a < b) × (b ≤ packets .count) × ((k : ℕ) → k < b → meetsIn flows packets table a k ≡ false)

@@ -4,11 +4,11 @@ use mathlib.Core.Bool.{false}
 use Prim.Native.Nat.{ℕ, _-_, _≤_, _<_}
 use native.Mathlib.Omega.{arith}
 use borrow.Author.Count.{below-none, below-more}
-use Rattle.walks.specs.Scan.{higherIn}
-use Rattle.walks.proofs.Pairs.{none-higher, pair-found, pair-none}
+use Rattle.pairs.specs.Scan.{higherIn}
+use Rattle.pairs.proofs.Pairs.{none-higher, pair-found, pair-none}
 use borrow.Author.Needs.{needs}
-use Rattle.walks.proofs.scan.first_meeting.Statement.{statement}
-use Rattle.walks.proofs.scan.first_meeting.Tie as tie
+use Rattle.pairs.proofs.scan.first_meeting.Statement.{statement}
+use Rattle.pairs.proofs.scan.first_meeting.Tie as tie
 
 abbrev Inv-loop : tie.InvT-loop
 Inv-loop flows packets table n a₀ a = (a ≤ packets .count) × ((k : ℕ) → k < a → higherIn flows packets table k ≡ false)

@@ -1,6 +1,5 @@
-// The two walks of the check.
+// The second walk of the check: pairs that collide.
 mod scan;
 
 pub use scan::Pair;
 pub use scan::first_meeting;
-pub use scan::first_outside;

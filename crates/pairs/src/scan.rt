@@ -1,4 +1,4 @@
-// The two walks of the check: over the packets for a time out of range, then over the pairs for a collision.
+// The walk over the pairs of packets for a collision.
 use arrays::Flows;
 use arrays::Packets;
 use mesh::share;
@@ -7,33 +7,12 @@ use time::overlap;
 ghost use mathlib.Core.Path.{_≡_};
 ghost use Prim.Native.Nat.{_<_};
 ghost use Rattle.basics.specs.First.{first};
-ghost use Rattle.walks.specs.Scan.{strays, meetsIn, firstPair, Scan, Timely};
+ghost use Rattle.pairs.specs.Scan.{meetsIn, firstPair, Timely};
 
 // Two packets.
 pub struct Pair {
     pub a: usize,
     pub b: usize,
-}
-
-// The lowest packet whose time is outside its start range, or the number of packets.
-pub fn first_outside(flows: Flows, packets: Packets, table: &[u32]) -> usize
-    requires { ⌜ Scan flows packets (now table) ⌝ }
-    ensures { λ r. ⌜ r ≡ first (strays flows packets (now (table .entry))) (packets .count) ⌝ }
-{
-    let n = packets.count;
-    for p in 0..n {
-        let f = packets.flow[p] as usize;
-        let release = packets.release[p];
-        let latest = release + flows.due[f] - flows.occupancy[f];
-        let time = table[p];
-        if time < release {
-            return p;
-        }
-        if latest < time {
-            return p;
-        }
-    }
-    n
 }
 
 // The lowest packet above a that a collides with, or the number of packets. Windows are compared before links.

@@ -9,9 +9,9 @@ use Rattle.basics.specs.First.{first, some}
 use Rattle.basics.proofs.First.{first-le, first-is, first-none}
 use Rattle.arrays.specs.declared.build.Flows.{Flows}
 use Rattle.arrays.specs.declared.build.Packets.{Packets}
-use Rattle.walks.specs.Scan.{meetsIn, higherIn, firstPair}
-use Rattle.walks.specs.declared.scan.Pair.{Pair}
-use Rattle.walks.proofs.Walks.{not-lower}
+use Rattle.pairs.specs.Scan.{meetsIn, higherIn, firstPair}
+use Rattle.pairs.specs.declared.scan.Pair.{Pair}
+use Rattle.pairs.proofs.Walks.{not-lower}
 
 module _ (flows : Flows) (packets : Packets) (table : List ℕ) where
   -- a packet whose lowest partner is no packet meets no higher one

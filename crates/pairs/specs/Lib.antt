@@ -1,0 +1,2 @@
+-- The walk over pairs.
+pub mod Scan

@@ -1,0 +1,2 @@
+-- The walk over the packets for a time out of range.
+pub mod Ranges

@@ -1,2 +1,0 @@
--- The two walks of the check.
-pub mod Scan
