@@ -44,3 +44,29 @@ module _ {lens links marks : List ℕ} {b : Busy} {g span f begin at : ℕ} (ask
       let apart : shares (pathIn lens links g) (pathIn lens links other) ≡ false =
       shares-swap (pathIn lens links g) (pathIn lens links other) ∙ path-apart (asks .paths) other (face .flow) _ lacks in
       sweep-apart s (face .next) (subst (λ (o : ℕ). shares (pathIn lens links g) (pathIn lens links o) ≡ false) (face .other-is) apart)
+
+-- ---- where the code stands in its three loops
+
+-- at a time: what the sweep asks, and how far it is
+pub record AtTime (lens links marks : List ℕ) (b : Busy) (g span f begin at j i t : ℕ) : Type 0 where
+  pub asks : Sweep lens links marks b g span f begin at
+  pub swept : Sweeping lens links b g span f begin j i t
+
+-- at a stretch: besides, the time is one of so many, and the sweep does not go back
+pub record AtStretch (lens links marks : List ℕ) (b : Busy) (g span f begin at slots j₀ j i t : ℕ) : Type 0 where
+  pub asks : Sweep lens links marks b g span f begin at
+  pub swept : Sweeping lens links b g span f begin j i t
+  pub going : i < slots
+  pub ahead : j₀ ≤ j
+
+-- at a link of a stretch that is faced: besides, no link before it is on the packet's path
+pub record AtLink (lens links marks : List ℕ) (b : Busy) (g span f begin at slots j₀ j i t other end a a-end : ℕ) : Type 0 where
+  pub asks : Sweep lens links marks b g span f begin at
+  pub swept : Sweeping lens links b g span f begin j i t
+  pub facing : Facing b span j t other end
+  pub going : i < slots
+  pub ahead : j₀ ≤ j
+  pub within : a ≤ a-end
+  pub lacks : (m : ℕ) → m < a → has (pathIn lens links g) (getD links (other * 32 + m) 0) ≡ false
+  pub long : a-end ≡ getD lens other 0
+  pub few : a-end ≤ 32
