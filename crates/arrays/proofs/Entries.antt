@@ -7,8 +7,8 @@ use native.Mathlib.Nat.{zero-add}
 use lib.ListN.{getD, length-map, List·getD-map}
 use Rattle.basics.specs.Lists.{tabulate, padded}
 use Rattle.basics.proofs.Lists.{tabulate-length, tabulate-at, padded-at, padded-take}
-use Rattle.mesh.specs.Route.{pathOf, linksOf}
-use Rattle.mesh.specs.declared.paths.Path.{Path}
+use Rattle.routes.specs.Route.{pathOf, linksOf}
+use Rattle.routes.specs.declared.paths.Path.{Path}
 use Rattle.packet.specs.Packet.{Packet, absent}
 use Rattle.packet.specs.Table.{packetAt}
 use Rattle.model.specs.Flows.{periodOf, dueOf, flowsIn, linksOfFlow, occupancyIn}

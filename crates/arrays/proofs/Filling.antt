@@ -8,8 +8,8 @@ use native.Mathlib.Omega.{arith}
 use lib.ListN.{length, set, length-append, length-map}
 use Rattle.basics.specs.Lists.{tabulate, padded}
 use Rattle.basics.proofs.Lists.{padded-push, padded-tabulate}
-use Rattle.mesh.specs.Route.{pathOf}
-use Rattle.mesh.specs.declared.paths.Path.{Path}
+use Rattle.routes.specs.Route.{pathOf}
+use Rattle.routes.specs.declared.paths.Path.{Path}
 use Rattle.packet.specs.Packet.{Packet}
 use Rattle.model.specs.Flows.{periodOf, dueOf, linksOfFlow, occupancyIn}
 use Rattle.model.specs.Packets.{packetOf}

@@ -5,8 +5,8 @@ use Prim.Native.Nat.{ℕ, _+_, _/_, _<_}
 use native.Mathlib.Nat.{mul-div-cancel}
 use native.Mathlib.Omega.{arith}
 use lib.ListN.{length, getD}
-use Rattle.mesh.specs.Route.{pathOf, linksOf}
-use Rattle.mesh.specs.declared.paths.Path.{Path}
+use Rattle.routes.specs.Route.{pathOf, linksOf}
+use Rattle.routes.specs.declared.paths.Path.{Path}
 use Rattle.packet.specs.Table.{packetAt}
 use Rattle.packet.proofs.Packet.{packet-same}
 use Rattle.model.specs.Flows.{periodOf, flowsIn}

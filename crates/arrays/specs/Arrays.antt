@@ -4,8 +4,8 @@ use mathlib.Core.List.{List, [], map}
 use Prim.Native.Nat.{ℕ, zero, suc, _+_, _*_, _/_, _^_, _≤_, _<_}
 use lib.ListN.{length, getD, set}
 use Rattle.basics.specs.Lists.{tabulate, padded}
-use Rattle.mesh.specs.Route.{pathOf, linksOf}
-use Rattle.mesh.specs.declared.paths.Path.{Path}
+use Rattle.routes.specs.Route.{pathOf, linksOf}
+use Rattle.routes.specs.declared.paths.Path.{Path}
 use Rattle.packet.specs.Packet.{Packet}
 use Rattle.model.specs.Flows.{periodOf, dueOf, flowsIn, linksOfFlow, occupancyIn}
 use Rattle.model.specs.Packets.{hyperIn, packetsOf}

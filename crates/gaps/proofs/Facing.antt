@@ -5,8 +5,8 @@ use mathlib.Core.List.{List}
 use Prim.Native.Nat.{ℕ, _+_, _-_, _*_, _/_, _≤_, _<_}
 use native.Mathlib.Omega.{arith}
 use lib.ListN.{getD}
-use Rattle.mesh.specs.Share.{has, shares}
-use Rattle.mesh.proofs.Common.{shares-at, shares-swap}
+use Rattle.routes.specs.Share.{has, shares}
+use Rattle.routes.proofs.Common.{shares-at, shares-swap}
 use Rattle.stretches.specs.Busy.{pathIn, Busy, startOf, endOf, flowOf}
 use Rattle.gaps.specs.Gaps.{Sweep}
 use Rattle.stretches.proofs.Paths.{path-has, path-apart}

@@ -9,8 +9,8 @@ use native.Mathlib.Omega.{arith}
 use lib.ListN.{length, getD, length-set}
 use lib.Seq.{getD-set-same, getD-set-other}
 use Rattle.basics.proofs.Choose.{not-passing}
-use Rattle.mesh.specs.Share.{has}
-use Rattle.mesh.proofs.Common.{has-place}
+use Rattle.routes.specs.Share.{has}
+use Rattle.routes.proofs.Common.{has-place}
 use Rattle.stretches.specs.Busy.{pathIn, Paths}
 use Rattle.gaps.specs.Gaps.{markOf, stamped, Marked}
 use Rattle.stretches.proofs.Paths.{path-length, path-at}

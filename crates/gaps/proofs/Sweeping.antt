@@ -14,7 +14,7 @@ use Rattle.basics.specs.Choose.{both}
 use Rattle.basics.specs.First.{first, some}
 use Rattle.basics.proofs.Choose.{both-pass, both-not}
 use Rattle.basics.proofs.First.{first-is, first-none, some-at, some-none}
-use Rattle.mesh.specs.Share.{shares}
+use Rattle.routes.specs.Share.{shares}
 use Rattle.stretches.specs.Busy.{pathIn, Busy, startOf, endOf, flowOf, Kept}
 use Rattle.gaps.specs.Gaps.{hits, firstGap, gapAt, Sweep}
 use Rattle.gaps.specs.declared.gap.Placed.the-variants.{At, Nowhere}

@@ -7,7 +7,7 @@ use lib.Dec.{ltb}
 use lib.ListN.{length, getD, set}
 use Rattle.basics.specs.Choose.{both, choose}
 use Rattle.basics.specs.First.{first, some}
-use Rattle.mesh.specs.Share.{shares}
+use Rattle.routes.specs.Share.{shares}
 use Rattle.time.specs.Hyper.{most}
 use Rattle.gaps.specs.declared.gap.Placed.{Placed}
 use Rattle.gaps.specs.declared.gap.Placed.the-variants.{At, Nowhere}

@@ -2,7 +2,7 @@
 ghost use mathlib.Core.Path.{_≡_};
 ghost use Prim.Native.Nat.{_<_};
 ghost use lib.ListN.{length, getD};
-ghost use Rattle.mesh.specs.Share.{has};
+ghost use Rattle.routes.specs.Share.{has};
 ghost use Rattle.stretches.specs.Busy.{pathIn, Paths};
 ghost use Rattle.gaps.specs.Gaps.{stamped, Marked};
 

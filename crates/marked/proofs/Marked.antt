@@ -6,8 +6,8 @@ use Rattle.basics.specs.Lists.{tabulate}
 use Rattle.basics.specs.Sums.{sumOf, countOf}
 use Rattle.mesh.specs.Node.{placeOf, nodeAt, apart, distanceOf}
 use Rattle.mesh.specs.Link.{linkOf, steps, stepOf, endOf}
-use Rattle.mesh.specs.Route.{towards, leg, alongRow, alongColumn, corner, routeOf}
-use Rattle.mesh.specs.Share.{has, shares}
+use Rattle.routes.specs.Route.{towards, leg, alongRow, alongColumn, corner, routeOf}
+use Rattle.routes.specs.Share.{has, shares}
 use Rattle.time.specs.Units.{flitsOf, occupancyOf, turnsOf, latestOf}
 use Rattle.time.specs.Window.{overlaps}
 use Rattle.time.specs.Divisor.{gcdF, gcdOf, lcmOf}

@@ -3,7 +3,7 @@ use mathlib.Core.List.{List, [], _∷_, _++_}
 use Prim.Native.Nat.{ℕ}
 use lib.ListN.{replicate}
 use Rattle.basics.specs.Choose.{asNumber}
-use Rattle.mesh.specs.Route.{routeOf}
+use Rattle.routes.specs.Route.{routeOf}
 use Rattle.time.specs.Units.{flitsOf, occupancyOf, turnsOf, latestOf}
 use Rattle.time.specs.Hyper.{hyperOf}
 use Rattle.packet.specs.Packet.{Packet, collide}

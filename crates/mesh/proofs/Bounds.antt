@@ -9,9 +9,8 @@ use borrow.Author.Tests.{leb-true}
 use Rattle.basics.specs.Choose.{choose}
 use Rattle.basics.specs.First.{firstFrom, first, some, every}
 use Rattle.basics.proofs.First.{every-at}
-use Rattle.mesh.specs.Node.{placeOf, nodeAt, apart}
+use Rattle.mesh.specs.Node.{placeOf, nodeAt, apart, Inside}
 use Rattle.mesh.specs.Link.{steps, stepOf}
-use Rattle.mesh.specs.Walk.{Inside}
 use Rattle.mesh.specs.declared.nodes.Place.{Place}
 
 -- the two positive steps of a kind are at most 1

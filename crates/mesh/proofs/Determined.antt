@@ -13,10 +13,6 @@ use Rattle.mesh.proofs.links.link_of.Reads as link-of
 use Rattle.mesh.proofs.links.link_of.Kinds as link-of-kinds
 use Rattle.mesh.proofs.links.end_of.Reads as end-of
 use Rattle.mesh.proofs.links.end_of.Kinds as end-of-kinds
-use Rattle.mesh.proofs.paths.route.Reads as route
-use Rattle.mesh.proofs.paths.route.Kinds as route-kinds
-use Rattle.mesh.proofs.sharing.share.Reads as share
-use Rattle.mesh.proofs.sharing.share.Kinds as share-kinds
 
 -- the place of a node
 pub place-of-determined : Determined 0 place-of-kinds.ps place-of-kinds.r place-of.Post
@@ -41,11 +37,3 @@ link-of-determined κs a x y s t p q = p ∙ sym q
 -- where a link ends
 pub end-of-determined : Determined 0 end-of-kinds.ps end-of-kinds.r end-of.Post
 end-of-determined κs a x y s t p q = p ∙ sym q
-
--- the path between two nodes
-pub route-determined : Determined 0 route-kinds.ps route-kinds.r route.Post
-route-determined κs a x y s t p q = p ∙ sym q
-
--- whether two paths share a link
-pub share-determined : Determined 0 share-kinds.ps share-kinds.r share.Post
-share-determined κs a x y s t p q = p ∙ sym q

@@ -1,11 +1,4 @@
--- The laws of the mesh.
+-- The laws of nodes and links.
 pub mod Bounds
-pub mod Building
-pub mod Common
 pub mod Determined
-pub mod Legs
-pub mod NoneTwice
 pub mod Numbers
-pub mod Turns
-pub mod TwoLegs
-pub mod XY

@@ -1,6 +1,3 @@
--- Nodes, links, routes, and links in common.
+-- Nodes and links.
 pub mod Node
 pub mod Link
-pub mod Route
-pub mod Share
-pub mod Walk

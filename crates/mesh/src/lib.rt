@@ -1,10 +1,11 @@
-// Nodes, the six kinds of link, the route and whether two paths share a link.
+// Nodes and the six kinds of link.
 mod links;
 mod nodes;
-mod paths;
-mod sharing;
 
+pub use links::end_of;
+pub use links::link_of;
+pub use nodes::Place;
 pub use nodes::distance;
-pub use paths::Path;
-pub use paths::route;
-pub use sharing::share;
+pub use nodes::far;
+pub use nodes::node_at;
+pub use nodes::place_of;

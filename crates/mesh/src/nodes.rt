@@ -1,8 +1,7 @@
 // Nodes: numbers, and places in columns and rows.
 ghost use mathlib.Core.Path.{_≡_};
 ghost use Prim.Native.Nat.{_<_, _≤_, _*_};
-ghost use Rattle.mesh.specs.Node.{placeOf, nodeAt, apart, distanceOf};
-ghost use Rattle.mesh.specs.Route.{Ends};
+ghost use Rattle.mesh.specs.Node.{placeOf, nodeAt, apart, distanceOf, Ends};
 
 // A place in the mesh.
 pub struct Place {

@@ -8,10 +8,10 @@ use native.Mathlib.Omega.{arith}
 use lib.ListN.{length, getD, length-append}
 use Rattle.basics.proofs.Lists.{tabulate-length, tabulate-at}
 use Rattle.basics.proofs.Sums.{part-whole}
-use Rattle.mesh.specs.Node.{placeOf}
+use Rattle.mesh.specs.Node.{placeOf, Ends}
 use Rattle.mesh.specs.Link.{linkOf}
-use Rattle.mesh.specs.Route.{alongRow, alongColumn, corner, routeOf, Ends}
-use Rattle.mesh.proofs.Building.{last-room}
+use Rattle.routes.specs.Route.{alongRow, alongColumn, corner, routeOf}
+use Rattle.routes.proofs.Building.{last-room}
 use Rattle.time.specs.Units.{occupancyOf, turnsOf}
 use Rattle.time.specs.Hyper.{most, Periods}
 use Rattle.time.proofs.HyperPeriod.{hyper-multiple, hyper-positive}

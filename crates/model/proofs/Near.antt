@@ -4,8 +4,7 @@ use mathlib.Core.List.{List}
 use Prim.Native.Nat.{ℕ, _*_, _/_, _%_, _≤_, _<_}
 use native.Mathlib.Nat.{mod-lt, div-lt-iff-lt-mul, mul-le-mul, mul-comm, lt-of-lt-of-le}
 use native.Mathlib.Omega.{arith}
-use Rattle.mesh.specs.Node.{apart, distanceOf}
-use Rattle.mesh.specs.Route.{Ends}
+use Rattle.mesh.specs.Node.{apart, distanceOf, Ends}
 use Rattle.mesh.proofs.Bounds.{apart-lt}
 use Rattle.model.specs.Flows.{sourceOf, targetOf, flowsIn}
 use Rattle.model.specs.Fair.{FairMesh, FairNodes, Sized, Fair}

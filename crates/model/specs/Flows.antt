@@ -3,7 +3,7 @@ use mathlib.Core.List.{List}
 use Prim.Native.Nat.{ℕ, _+_, _*_, _/_}
 use lib.ListN.{length, getD}
 use Rattle.mesh.specs.Node.{distanceOf}
-use Rattle.mesh.specs.Route.{routeOf}
+use Rattle.routes.specs.Route.{routeOf}
 use Rattle.time.specs.Units.{flitsOf, occupancyOf}
 use Rattle.model.specs.declared.flows.Mesh.{Mesh}
 

@@ -11,8 +11,8 @@ use lib.Dec.{leb}
 use borrow.Author.Tests.{leb-true, leb-false, le-leb}
 use Rattle.basics.specs.Choose.{both}
 use Rattle.basics.proofs.Choose.{both-pass, both-first, both-second}
-use Rattle.mesh.specs.Share.{shares}
-use Rattle.mesh.proofs.Common.{shares-swap}
+use Rattle.routes.specs.Share.{shares}
+use Rattle.routes.proofs.Common.{shares-swap}
 use Rattle.time.specs.Units.{latestOf}
 use Rattle.time.specs.Window.{overlaps}
 use Rattle.time.proofs.Windows.{overlaps-swap}

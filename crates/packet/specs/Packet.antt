@@ -4,7 +4,7 @@ use mathlib.Core.List.{List, []}
 use Prim.Native.Nat.{ℕ}
 use lib.Dec.{leb}
 use Rattle.basics.specs.Choose.{both}
-use Rattle.mesh.specs.Share.{shares}
+use Rattle.routes.specs.Share.{shares}
 use Rattle.time.specs.Units.{latestOf}
 use Rattle.time.specs.Window.{overlaps}
 

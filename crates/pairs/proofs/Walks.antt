@@ -8,7 +8,7 @@ use lib.Dec.{ltb}
 use borrow.Author.Tests.{lt-ltb, le-ltb, not-false}
 use Rattle.basics.specs.Choose.{both}
 use Rattle.basics.proofs.Choose.{both-pass, both-not}
-use Rattle.mesh.specs.Share.{shares}
+use Rattle.routes.specs.Share.{shares}
 use Rattle.time.specs.Window.{overlaps}
 use Rattle.packet.specs.Packet.{collide}
 use Rattle.packet.specs.Table.{timeAt}

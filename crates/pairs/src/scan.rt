@@ -1,7 +1,7 @@
 // The walk over the pairs of packets for a collision.
 use arrays::Flows;
 use arrays::Packets;
-use mesh::share;
+use routes::share;
 use time::Window;
 use time::overlap;
 ghost use mathlib.Core.Path.{_≡_};

@@ -14,7 +14,7 @@ use Rattle.basics.specs.Choose.{both}
 use Rattle.basics.specs.First.{first, some}
 use Rattle.basics.proofs.Choose.{both-pass, both-first, both-second, same-test}
 use Rattle.basics.proofs.First.{first-passes, some-at, some-first}
-use Rattle.mesh.specs.Share.{shares}
+use Rattle.routes.specs.Share.{shares}
 use Rattle.time.specs.Units.{latestOf}
 use Rattle.time.specs.Window.{overlaps}
 use Rattle.packet.specs.Packet.{Packet, collide}

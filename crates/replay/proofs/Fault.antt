@@ -8,8 +8,8 @@ use mathlib.Core.List.{List}
 use Prim.Native.Nat.{ℕ, _+_, _-_, _<_, max}
 use native.Mathlib.Omega.{arith}
 use lib.ListN.{length, getD}
-use Rattle.mesh.specs.Share.{has}
-use Rattle.mesh.proofs.Common.{has-at, shares-link}
+use Rattle.routes.specs.Share.{has}
+use Rattle.routes.proofs.Common.{has-at, shares-link}
 use Rattle.time.proofs.Windows.{overlaps-common, holds-from, holds-before}
 use Rattle.packet.specs.Packet.{Packet}
 use Rattle.packet.specs.Table.{packetAt, timeAt, outside, meets}

@@ -10,7 +10,7 @@ use mathlib.Core.List.{List}
 use Prim.Native.Nat.{ℕ, _+_, _*_, _-_, _≤_, _<_}
 use native.Mathlib.Omega.{arith}
 use lib.ListN.{length}
-use Rattle.mesh.proofs.Common.{shares-at}
+use Rattle.routes.proofs.Common.{shares-at}
 use Rattle.time.proofs.Windows.{holds-at, common-overlaps}
 use Rattle.basics.proofs.Choose.{not-passing}
 use Rattle.packet.specs.Packet.{Packet, collide}

@@ -5,7 +5,7 @@ use mathlib.Core.Bool.{true}
 use mathlib.Core.List.{List}
 use Prim.Native.Nat.{ℕ, _+_, _*_, _≤_, _<_}
 use native.Mathlib.Omega.{arith}
-use Rattle.mesh.specs.Share.{has}
+use Rattle.routes.specs.Share.{has}
 use Rattle.basics.proofs.Choose.{both-pass, both-first, both-second}
 use Rattle.time.proofs.Windows.{holds-at, holds-from, holds-before}
 use Rattle.packet.specs.Packet.{Packet}

@@ -7,7 +7,7 @@ use mathlib.Core.List.{List}
 use Prim.Native.Nat.{ℕ, _+_, _*_, _-_, _≤_, _<_}
 use lib.ListN.{length}
 use Rattle.basics.specs.Choose.{both}
-use Rattle.mesh.specs.Share.{has}
+use Rattle.routes.specs.Share.{has}
 use Rattle.time.specs.Window.{holds}
 use Rattle.packet.specs.Packet.{Packet}
 use Rattle.packet.specs.Table.{packetAt, timeAt}

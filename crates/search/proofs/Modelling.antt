@@ -11,8 +11,8 @@ use lib.ListN.{length, getD, take, drop, replicate, length-drop, length-map, get
 use lib.Seq.{length-take-le, getD-take, getD-drop, getD-append-add, ext-getD}
 use Rattle.basics.specs.Lists.{tabulate, padded}
 use Rattle.basics.proofs.Lists.{tabulate-length, padded-length}
-use Rattle.mesh.specs.Route.{pathOf, linksOf}
-use Rattle.mesh.specs.declared.paths.Path.{Path}
+use Rattle.routes.specs.Route.{pathOf, linksOf}
+use Rattle.routes.specs.declared.paths.Path.{Path}
 use Rattle.time.specs.Hyper.{most}
 use Rattle.packet.specs.Packet.{Packet}
 use Rattle.model.specs.Flows.{flowsIn, linksOfFlow, occupancyIn}

@@ -6,7 +6,7 @@ use native.Mathlib.Decide.{ℕ-discrete}
 use native.Mathlib.Omega.{arith}
 use lib.ListN.{length, getD, set, take, drop, length-set, List·getD-append}
 use lib.Seq.{paste, length-paste, length-paste-head, length-take-le, getD-take, getD-append-add, getD-set-same, getD-set-other}
-use Rattle.mesh.specs.declared.paths.Path.{Path}
+use Rattle.routes.specs.declared.paths.Path.{Path}
 use Rattle.arrays.specs.Arrays.{noPath}
 
 module _ (links : List ℕ) (at : ℕ) (path : List ℕ) (n : ℕ) (long : at + n ≤ length links) (enough : n ≤ length path) where

@@ -1,9 +1,9 @@
 // The passes over a model: its paths go into one array of links, 32 places to a flow.
 use crate::keys::slacks;
 use arrays::Model;
-use mesh::Path;
 use passes::Outcome;
 use passes::rounds;
+use routes::Path;
 ghost use mathlib.Core.Path.{_≡_};
 ghost use mathlib.Core.List.{List};
 ghost use Prim.Native.Nat.{ℕ, _<_, _*_};

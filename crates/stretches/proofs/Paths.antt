@@ -10,8 +10,8 @@ use lib.Seq.{length-take-le, getD-take, getD-drop, ext-getD}
 use borrow.Author.Tests.{eqb-true}
 use Rattle.basics.proofs.Choose.{both-first, both-second}
 use Rattle.basics.proofs.First.{some-none, every-at}
-use Rattle.mesh.specs.Share.{has, shares}
-use Rattle.mesh.proofs.Common.{has-at}
+use Rattle.routes.specs.Share.{has, shares}
+use Rattle.routes.proofs.Common.{has-at}
 use Rattle.stretches.specs.Busy.{pathIn, Paths}
 use Rattle.stretches.specs.Keep.{samePath}
 

@@ -1,7 +1,7 @@
 -- `no_flows` is its definition.
 use mathlib.Core.Path.{refl}
 use Rattle.basics.specs.Lists.{padded}
-use Rattle.mesh.specs.Route.{pathOf}
+use Rattle.routes.specs.Route.{pathOf}
 use Rattle.arrays.specs.Arrays.{noFlows}
 use Rattle.arrays.proofs.build.no_flows.Statement.{statement}
 use Rattle.arrays.proofs.build.no_flows.Tie as tie

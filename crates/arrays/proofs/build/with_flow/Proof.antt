@@ -1,7 +1,7 @@
 -- `with_flow` stores the next flow's numbers behind those of the flows before it.
 use mathlib.Core.Path.{_∙_, ap₂}
 use Prim.Native.Nat.{ℕ}
-use Rattle.mesh.specs.Route.{pathOf, routeOf}
+use Rattle.routes.specs.Route.{pathOf, routeOf}
 use native.Mathlib.Omega.{arith}
 use Rattle.model.specs.Flows.{sourceOf, targetOf, periodOf, dueOf, linksOfFlow}
 use Rattle.model.proofs.Near.{ends-of, fair-sized}

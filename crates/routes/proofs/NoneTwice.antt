@@ -4,13 +4,13 @@ use mathlib.Core.List.{List, [], _∷_, _++_}
 use Prim.Native.Nat.{ℕ, zero, suc, _+_, _*_, _-_, _≤_, _<_}
 use native.Mathlib.Omega.{arith}
 use Rattle.basics.proofs.Each.{Each, Lacks, Once, each-append, each-map, once-append}
-use Rattle.mesh.specs.Node.{placeOf, nodeAt}
+use Rattle.mesh.specs.Node.{placeOf, nodeAt, Inside}
 use Rattle.mesh.specs.Link.{linkOf, nodeOf, kindOf, steps, stepOf, endOf}
-use Rattle.mesh.specs.Route.{leg}
-use Rattle.mesh.specs.Walk.{Inside, Stays}
+use Rattle.routes.specs.Route.{leg}
+use Rattle.routes.specs.Walk.{Stays}
 use Rattle.mesh.specs.declared.nodes.Place.{Place}
 use Rattle.mesh.proofs.Numbers.{node-link, kind-link, place-node}
-use Rattle.mesh.proofs.TwoLegs.{Moves, TwoLegs, linksOver}
+use Rattle.routes.proofs.TwoLegs.{Moves, TwoLegs, linksOver}
 
 -- ---- along a leg
 

@@ -1,15 +1,15 @@
 -- Paths: XY from source to target, and a path as an array of 32 link numbers beside its length.
 use mathlib.Core.Path.{_≡_}
 use mathlib.Core.List.{List, [], _∷_, _++_}
-use Prim.Native.Nat.{ℕ, zero, suc, _+_, _*_, _<_, _≤_}
+use Prim.Native.Nat.{ℕ, zero, suc, _+_}
 use lib.Dec.{leb}
 use lib.ListN.{length, take}
 use Rattle.basics.specs.Lists.{padded}
 use Rattle.basics.specs.Choose.{choose}
 use Rattle.mesh.specs.Node.{placeOf, nodeAt, apart}
 use Rattle.mesh.specs.Link.{linkOf, nodeOf, endOf, endNode}
 use Rattle.mesh.specs.declared.nodes.Place.{Place}
-use Rattle.mesh.specs.declared.paths.Path.{Path}
+use Rattle.routes.specs.declared.paths.Path.{Path}
 
 -- the kind that leads from a towards b: up by the kind itself, down by the kind after it
 unfoldable pub towards : ℕ → ℕ → ℕ → ℕ
@@ -51,10 +51,3 @@ linksOf path = take (path .len) (path .links)
 unfoldable pub Leads : ℕ → ℕ → List ℕ → ℕ → Type 0
 Leads columns from [] to = from ≡ to
 Leads columns from (link ∷ links) to = (nodeOf link ≡ from) × Leads columns (endNode columns link) links to
-
--- two nodes of a mesh of at most 16 columns and 16 rows
-pub record Ends (columns source target : ℕ) : Type 0 where
-  pub some-columns : 0 < columns
-  pub few-columns : columns ≤ 16
-  pub source-in : source < 16 * columns
-  pub target-in : target < 16 * columns

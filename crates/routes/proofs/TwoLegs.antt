@@ -11,13 +11,13 @@ use lib.Arith.{digits-lt}
 use lib.ListN.{length, length-append}
 use borrow.Author.Tests.{lt-ltb, le-leb}
 use Rattle.basics.proofs.Each.{Each, each-append}
-use Rattle.mesh.specs.Node.{placeOf, nodeAt}
+use Rattle.mesh.specs.Node.{placeOf, nodeAt, Inside}
 use Rattle.mesh.specs.Link.{linkOf, nodeOf, steps, stepOf, endOf, endNode, stays, exists}
-use Rattle.mesh.specs.Route.{leg, Leads}
-use Rattle.mesh.specs.Walk.{Inside, Stays}
+use Rattle.routes.specs.Route.{leg, Leads}
+use Rattle.routes.specs.Walk.{Stays}
 use Rattle.mesh.specs.declared.nodes.Place.{Place}
-use Rattle.mesh.proofs.Legs.{leg-length}
+use Rattle.routes.proofs.Legs.{leg-length}
 use Rattle.mesh.proofs.Numbers.{node-link, kind-link, node-place, place-node, end-number, end-link, still-end}
 
 -- where n steps of a kind end
 unfoldable pub ended : ℕ → ℕ → Place → Place

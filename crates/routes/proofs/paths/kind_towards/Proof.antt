@@ -1,9 +1,9 @@
 -- `kind_towards` takes the case of the definition that its test takes.
 use borrow.Author.Tests.{le-leb, lt-leb}
-use Rattle.mesh.specs.Route.{towards}
+use Rattle.routes.specs.Route.{towards}
 use borrow.Author.Needs.{needs}
-use Rattle.mesh.proofs.paths.kind_towards.Statement.{statement}
-use Rattle.mesh.proofs.paths.kind_towards.Tie as tie
+use Rattle.routes.proofs.paths.kind_towards.Statement.{statement}
+use Rattle.routes.proofs.paths.kind_towards.Tie as tie
 
 add-result : tie.Need-add-result
 add-result c = search needs

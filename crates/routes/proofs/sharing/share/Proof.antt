@@ -1,7 +1,7 @@
 -- `share` answers true at a link that both lists have, and false where each link of the first was compared with each of the second.
 use borrow.Author.Count.{below-none, below-more}
 use borrow.Author.Tests.{ne-eqb}
-use Rattle.mesh.proofs.Common.{Whole, shares-at, has-array, has-none, shares-none}
+use Rattle.routes.proofs.Common.{Whole, shares-at, has-array, has-none, shares-none}
 use mathlib.Core.Path.{sym, refl}
 use native.Mathlib.Omega.{arith}
 use Prim.Native.Nat.{ℕ, _-_, _≤_, _<_}
@@ -10,11 +10,11 @@ use mathlib.Core.Bool.{false}
 use lib.ListN.{getD}
 use lib.Dec.{eqb}
 use borrow.Author.Count.{below-more}
-use Rattle.mesh.specs.Route.{linksOf}
-use Rattle.mesh.specs.Share.{has}
+use Rattle.routes.specs.Route.{linksOf}
+use Rattle.routes.specs.Share.{has}
 use borrow.Author.Needs.{needs}
-use Rattle.mesh.proofs.sharing.share.Statement.{statement}
-use Rattle.mesh.proofs.sharing.share.Tie as tie
+use Rattle.routes.proofs.sharing.share.Statement.{statement}
+use Rattle.routes.proofs.sharing.share.Tie as tie
 
 abbrev Inv-loop2 : tie.InvT-loop2
 Inv-loop2 a b n m i link j₀ j = (j ≤ b .len) × ((k : ℕ) → k < j → eqb (getD (b .links) k 0) link ≡ false)

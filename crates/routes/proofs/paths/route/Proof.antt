@@ -1,11 +1,11 @@
 -- `route` is built stage by stage: L-source, the walk along the row, the walk along the column, target-L.
 use native.Mathlib.Omega.{arith}
-use Rattle.mesh.specs.Route.{corner}
-use Rattle.mesh.proofs.Legs.{path-len, begun}
-use Rattle.mesh.proofs.Building.{row-walk, row-walked, column-walk, column-walked, last-room, built}
+use Rattle.routes.specs.Route.{corner}
+use Rattle.routes.proofs.Legs.{path-len, begun}
+use Rattle.routes.proofs.Building.{row-walk, row-walked, column-walk, column-walked, last-room, built}
 use borrow.Author.Needs.{needs}
-use Rattle.mesh.proofs.paths.route.Statement.{statement}
-use Rattle.mesh.proofs.paths.route.Tie as tie
+use Rattle.routes.proofs.paths.route.Statement.{statement}
+use Rattle.routes.proofs.paths.route.Tie as tie
 
 place-of-requires : tie.Need-place-of-requires
 place-of-requires c κs = search needs

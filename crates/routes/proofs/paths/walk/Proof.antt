@@ -1,14 +1,14 @@
 -- `walk` takes one step of its definition in each turn.
 use Rattle.mesh.proofs.Bounds.{node-small}
 use native.Mathlib.Omega.{arith}
 use mathlib.Core.Path.{_≡_, ap}
 use Prim.Native.Nat.{ℕ, _-_}
 use native.Mathlib.Nat.{sub-zero}
-use Rattle.mesh.specs.Walk.{walked}
-use Rattle.mesh.proofs.Turns.{Walking, next-stays, next-inner, next-walking}
+use Rattle.routes.specs.Walk.{walked}
+use Rattle.routes.proofs.Turns.{Walking, next-stays, next-inner, next-walking}
 use borrow.Author.Needs.{needs}
-use Rattle.mesh.proofs.paths.walk.Statement.{statement}
-use Rattle.mesh.proofs.paths.walk.Tie as tie
+use Rattle.routes.proofs.paths.walk.Statement.{statement}
+use Rattle.routes.proofs.paths.walk.Tie as tie
 
 abbrev Inv-loop : tie.InvT-loop
 Inv-loop columns kind n next₀ at₀ i₀ next at i = Walking columns kind n next₀ at₀ next at i

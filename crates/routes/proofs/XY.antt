@@ -10,16 +10,15 @@ use native.Mathlib.Omega.{arith}
 use lib.ListN.{length, getD, length-append}
 use lib.Seq.{getD-at}
 use Rattle.basics.proofs.Each.{Each, Once, each-at, once-at}
-use Rattle.mesh.specs.Node.{placeOf, apart, distanceOf}
+use Rattle.mesh.specs.Node.{placeOf, apart, distanceOf, Inside}
 use Rattle.mesh.specs.Link.{linkOf, steps, stepOf, endOf, exists}
-use Rattle.mesh.specs.Route.{towards, alongRow, alongColumn, corner, routeOf, Leads}
-use Rattle.mesh.specs.Walk.{Inside}
+use Rattle.routes.specs.Route.{towards, alongRow, alongColumn, corner, routeOf, Leads}
 use Rattle.mesh.specs.declared.nodes.Place.{Place}
 use Rattle.mesh.proofs.Bounds.{apart-lt}
-use Rattle.mesh.proofs.Legs.{either-way, row-stays, column-stays, towards-near}
+use Rattle.routes.proofs.Legs.{either-way, row-stays, column-stays, towards-near}
 use Rattle.mesh.proofs.Numbers.{at-place}
-use Rattle.mesh.proofs.TwoLegs.{TwoLegs, ended, linksOver, long, leads, all-exist}
-use Rattle.mesh.proofs.NoneTwice.{none-twice}
+use Rattle.routes.proofs.TwoLegs.{TwoLegs, ended, linksOver, long, leads, all-exist}
+use Rattle.routes.proofs.NoneTwice.{none-twice}
 
 -- two nodes of a mesh
 pub record Nodes (columns rows source target : ℕ) : Type 0 where

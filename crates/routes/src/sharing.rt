@@ -2,8 +2,8 @@
 use crate::paths::Path;
 ghost use mathlib.Core.Path.{_≡_};
 ghost use Prim.Native.Nat.{_≤_};
-ghost use Rattle.mesh.specs.Route.{linksOf};
-ghost use Rattle.mesh.specs.Share.{shares};
+ghost use Rattle.routes.specs.Route.{linksOf};
+ghost use Rattle.routes.specs.Share.{shares};
 
 // Whether some link is on both paths.
 pub fn share(a: Path, b: Path) -> bool

@@ -5,14 +5,14 @@ use mathlib.Core.List.{List, [], _∷_, _++_, append-assoc}
 use Prim.Native.Nat.{ℕ, suc, _+_, _<_}
 use native.Mathlib.Omega.{arith}
 use lib.ListN.{length, length-append}
-use Rattle.mesh.specs.Node.{placeOf, apart}
+use Rattle.mesh.specs.Node.{placeOf, apart, Ends, Inside}
 use Rattle.mesh.specs.Link.{linkOf}
-use Rattle.mesh.specs.Route.{towards, leg, alongRow, alongColumn, corner, routeOf, pathOf, Ends}
-use Rattle.mesh.specs.Walk.{pushed, walked, Inside, Walk}
+use Rattle.routes.specs.Route.{towards, leg, alongRow, alongColumn, corner, routeOf, pathOf}
+use Rattle.routes.specs.Walk.{pushed, walked, Walk}
 use Rattle.mesh.specs.declared.nodes.Place.{Place}
-use Rattle.mesh.specs.declared.paths.Path.{Path}
+use Rattle.routes.specs.declared.paths.Path.{Path}
 use Rattle.mesh.proofs.Bounds.{place-inside, apart-inside}
-use Rattle.mesh.proofs.Legs.{leg-length, row-stays, column-stays, towards-near, path-len, grown, gone}
+use Rattle.routes.proofs.Legs.{leg-length, row-stays, column-stays, towards-near, path-len, grown, gone}
 
 module _ (columns source target : ℕ) (ends : Ends columns source target) (a b : Place) (ea : a ≡ placeOf columns source) (eb : b ≡ placeOf columns target) where
   -- the source's place is inside

@@ -12,9 +12,9 @@ use borrow.Author.Tests.{eqb-true, eq-eqb}
 use Rattle.basics.specs.First.{first}
 use Rattle.basics.proofs.Choose.{same-test}
 use Rattle.basics.proofs.First.{some-at, some-none, some-first, first-passes}
-use Rattle.mesh.specs.Route.{linksOf}
-use Rattle.mesh.specs.Share.{has, shares}
-use Rattle.mesh.specs.declared.paths.Path.{Path}
+use Rattle.routes.specs.Route.{linksOf}
+use Rattle.routes.specs.Share.{has, shares}
+use Rattle.routes.specs.declared.paths.Path.{Path}
 
 -- a link at some place of a path is on it
 pub has-at : (path : List ℕ) (link i : ℕ) → i < length path → getD path i 0 ≡ link → has path link ≡ true

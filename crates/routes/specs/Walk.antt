@@ -1,10 +1,10 @@
 -- What the inner functions of a route do to a path: one more link, and n more of one kind.
 use Prim.Native.Nat.{ℕ, zero, suc, _+_, _<_, _≤_}
 use lib.ListN.{set}
-use Rattle.mesh.specs.Node.{nodeAt}
+use Rattle.mesh.specs.Node.{nodeAt, Inside}
 use Rattle.mesh.specs.Link.{linkOf, stepOf, endOf}
 use Rattle.mesh.specs.declared.nodes.Place.{Place}
-use Rattle.mesh.specs.declared.paths.Path.{Path}
+use Rattle.routes.specs.declared.paths.Path.{Path}
 
 -- the path with one more link
 unfoldable pub pushed : Path → ℕ → Path
@@ -14,11 +14,6 @@ pushed path link = record { links = set (path .links) (path .len) link; len = pa
 unfoldable pub walked : Path → ℕ → ℕ → ℕ → Place → Path
 walked path columns kind zero at = path
 walked path columns kind (suc n) at = walked (pushed path (linkOf (nodeAt columns at) kind)) columns kind n (endOf kind at)
-
--- a place is inside the mesh
-pub record Inside (columns rows : ℕ) (at : Place) : Type 0 where
-  pub column-in : at .column < columns
-  pub row-in : at .row < rows
 
 -- n steps of a kind from a place stay inside the mesh
 abbrev pub Stays : ℕ → ℕ → ℕ → ℕ → Place → Type 0

@@ -1,14 +1,15 @@
 // Paths: XY from source to target, as an array of 32 link numbers by value beside its length.
-use crate::links::end_of;
-use crate::links::link_of;
-use crate::nodes::Place;
-use crate::nodes::far;
-use crate::nodes::node_at;
-use crate::nodes::place_of;
+use mesh::Place;
+use mesh::end_of;
+use mesh::far;
+use mesh::link_of;
+use mesh::node_at;
+use mesh::place_of;
 ghost use mathlib.Core.Path.{_≡_};
 ghost use Prim.Native.Nat.{_<_};
-ghost use Rattle.mesh.specs.Route.{towards, pathOf, routeOf, Ends};
-ghost use Rattle.mesh.specs.Walk.{pushed, walked, Walk};
+ghost use Rattle.routes.specs.Route.{towards, pathOf, routeOf};
+ghost use Rattle.mesh.specs.Node.{Ends};
+ghost use Rattle.routes.specs.Walk.{pushed, walked, Walk};
 
 // The links of a path: the first len of the array; what follows them is 0.
 pub struct Path {

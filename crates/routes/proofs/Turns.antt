@@ -2,11 +2,11 @@
 use mathlib.Core.Path.{_≡_, sym, _∙_, ap, ap₂, subst}
 use Prim.Native.Nat.{ℕ, suc, _+_, _-_, _≤_, _<_}
 use native.Mathlib.Omega.{arith}
 use Rattle.mesh.specs.Node.{nodeAt}
 use Rattle.mesh.specs.Link.{linkOf, endOf, Inner}
-use Rattle.mesh.specs.Walk.{pushed, walked, Stays}
+use Rattle.routes.specs.Walk.{pushed, walked, Stays}
 use Rattle.mesh.specs.declared.nodes.Place.{Place}
-use Rattle.mesh.specs.declared.paths.Path.{Path}
+use Rattle.routes.specs.declared.paths.Path.{Path}
 
 -- where a walk stands after i of n steps: what is left of it makes the whole, and its steps stay inside
 pub record Walking (columns kind n : ℕ) (path₀ : Path) (from : Place) (path : Path) (at : Place) (i : ℕ) : Type 0 where

@@ -1,9 +1,9 @@
 -- `push` is its definition.
 use mathlib.Core.Path.{refl}
-use Rattle.mesh.specs.Walk.{pushed}
+use Rattle.routes.specs.Walk.{pushed}
 use borrow.Author.Needs.{needs}
-use Rattle.mesh.proofs.paths.push.Statement.{statement}
-use Rattle.mesh.proofs.paths.push.Tie as tie
+use Rattle.routes.proofs.paths.push.Statement.{statement}
+use Rattle.routes.proofs.paths.push.Tie as tie
 
 mul-next : tie.Need-mul-next
 mul-next c = search needs

@@ -13,12 +13,12 @@ use Rattle.basics.specs.Lists.{padded}
 use Rattle.basics.proofs.Lists.{padded-push}
 use lib.ListN.{length, replicate, length-append}
 use borrow.Author.Tests.{leb-true, leb-false}
-use Rattle.mesh.specs.Node.{nodeAt, apart}
+use Rattle.mesh.specs.Node.{nodeAt, apart, Inside}
 use Rattle.mesh.specs.Link.{linkOf, steps, stepOf, endOf}
-use Rattle.mesh.specs.Route.{towards, leg, pathOf}
-use Rattle.mesh.specs.Walk.{pushed, walked, Inside, Stays}
+use Rattle.routes.specs.Route.{towards, leg, pathOf}
+use Rattle.routes.specs.Walk.{pushed, walked, Stays}
 use Rattle.mesh.specs.declared.nodes.Place.{Place}
-use Rattle.mesh.specs.declared.paths.Path.{Path}
+use Rattle.routes.specs.declared.paths.Path.{Path}
 
 -- ---- a path by value
 
