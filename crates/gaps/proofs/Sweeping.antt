@@ -49,7 +49,7 @@ module _ (lens links : List ℕ) (b : Busy) (g span j : ℕ) where
 
 -- ---- the sweep
 
--- number k of the stretchs is next, at time i, which is t: at no time before is there a gap, and no stretch before k
+-- number k of the stretches is next, at time i, which is t: at no time before is there a gap, and no stretch before k
 -- is in the way from t on
 pub record Sweeping (lens links : List ℕ) (b : Busy) (g span f begin k i t : ℕ) : Type 0 where
   pub within : k ≤ b .count
@@ -168,7 +168,7 @@ module _ {lens links : List ℕ} {b : Busy} {g span f begin : ℕ} where
         first-is _ slots i h (ap not clear) (λ m l. ap not (s .blocked m l)) in
         rw (is, lt-ltb i slots h) (ap (λ (n : ℕ). At n (i + 1)) (s .grid))
 
-    -- all stretchs are passed
+    -- all stretches are passed
     pub sweep-clear : (slots : ℕ) → i < slots → b .count ≤ k → At t (i + 1) ≡ gapAt f begin slots (firstGap lens links b g span f begin slots)
     sweep-clear slots h l = sweep-gap slots h (λ j a b. absurd (omega arith))
 

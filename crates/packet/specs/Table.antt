@@ -1,4 +1,4 @@
--- What the check says of a table of injection times, over any list of packets.
+-- What a table of injection times says of a packet, and what the check says of the table, over any list of packets.
 use mathlib.Core.Bool.{Bool, not}
 use mathlib.Core.List.{List}
 use Prim.Native.Nat.{ℕ}
