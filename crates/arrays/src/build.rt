@@ -1,11 +1,11 @@
 // The flows and the packets of a model that is not refused, as arrays by value.
+use hyper::Hyper;
 use model::Mesh;
 use model::hyper_in;
 use model::number_of;
 use model::occupancy_of;
 use routes::Path;
 use routes::route;
-use time::Hyper;
 ghost use mathlib.Core.Path.{_≡_};
 ghost use Prim.Native.Nat.{_+_, _≤_};
 ghost use Rattle.model.specs.Fair.{Fair, Timed};

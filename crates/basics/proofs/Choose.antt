@@ -1,7 +1,7 @@
--- Laws of tests: two at once, made from and taken apart into each; and when two tests agree, or one cannot pass.
-use mathlib.Core.Path.{_≡_, refl, sym}
-use mathlib.Core.Bool.{Bool, true, false, false≢true}
-use Rattle.basics.specs.Choose.{both}
+-- Laws of tests: two at once, and one or the other, each made from and taken apart into the two; and when two tests agree, or one cannot pass.
+use mathlib.Core.Path.{_≡_, refl, sym, _∙_}
+use mathlib.Core.Bool.{Bool, true, false, false≢true, true≢false}
+use Rattle.basics.specs.Choose.{both, either}
 
 -- ---- `both`
 
@@ -31,6 +31,27 @@ both-swap true true = refl
 both-swap true false = refl
 both-swap false true = refl
 both-swap false false = refl
+
+-- ---- `either`
+
+-- where not one of two tests passes, neither does
+pub neither : (a b : Bool) → either a b ≡ false → (a ≡ false) × (b ≡ false)
+neither true b e = absurd (true≢false e)
+neither false b e = (refl, e)
+
+-- where the first test passes, one does
+pub first-of : (a b : Bool) → a ≡ true → either a b ≡ true
+first-of true b e = refl
+first-of false b e = absurd (true≢false (sym e))
+
+-- where the first test does not pass, the second decides
+pub rest-of : (a b : Bool) → a ≡ false → either a b ≡ b
+rest-of true b e = absurd (true≢false e)
+rest-of false b e = refl
+
+-- where neither of two tests passes, not one does
+pub none-of : (a b : Bool) → a ≡ false → b ≡ false → either a b ≡ false
+none-of a b p q = rest-of a b p ∙ q
 
 -- ---- one test
 

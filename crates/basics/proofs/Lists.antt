@@ -34,6 +34,12 @@ module _ {ℓ} {X : Type ℓ} (f : ℕ → X) where
 
 -- ---- `padded`
 
+-- a list of one value reads as that value everywhere
+pub fill-at {ℓ} : {X : Type ℓ} (fill : X) (m k : ℕ) → getD (replicate m fill) k fill ≡ fill
+fill-at fill zero k = refl
+fill-at fill (suc m) zero = refl
+fill-at fill (suc m) (suc k) = fill-at fill m k
+
 module _ {ℓ} {X : Type ℓ} (n : ℕ) (fill : X) where
   -- it has n entries
   pub padded-length : (xs : List X) → length xs ≤ n → length (padded n fill xs) ≡ n
@@ -49,6 +55,16 @@ module _ {ℓ} {X : Type ℓ} (n : ℕ) (fill : X) where
   pub padded-at : (xs : List X) (k : ℕ) (d : X) → k < length xs → getD (padded n fill xs) k d ≡ getD xs k d
   unfolding padded
   padded-at xs k d h = List·getD-append xs (replicate (n - length xs) fill) d k h
+
+  -- an entry past the list
+  pub padded-past : (xs : List X) (k : ℕ) → length xs ≤ k → getD (padded n fill xs) k fill ≡ fill
+  unfolding padded
+  padded-past xs k h = go xs k h
+    where
+      go : (ys : List X) (j : ℕ) → length ys ≤ j → getD (ys ++ replicate (n - length xs) fill) j fill ≡ fill
+      go [] j l = fill-at fill (n - length xs) j
+      go (y ∷ ys) zero l = absurd (not-suc-le-zero l)
+      go (y ∷ ys) (suc j) l = go ys j (le-of-suc-le-suc l)
 
   -- storing behind the list puts one more entry on it
   pub padded-push : (xs : List X) (x : X) → length xs < n → set (padded n fill xs) (length xs) x ≡ padded n fill (xs ++ (x ∷ []))

@@ -1,12 +1,15 @@
 -- Laws of sums over the numbers below n.
 -- In order: a part with all before it is within the sum, so each part is at most the whole; then the numbers below a sum, each of which
--- lies in a part, at an offset from the part's start.
-use mathlib.Core.Path.{_≡_}
+-- lies in a part, at an offset from the part's start; then counts.
+use mathlib.Core.Path.{_≡_, refl, ap}
+use mathlib.Core.Bool.{Bool, true, false}
 use Prim.Native.Nat.{ℕ, zero, suc, _+_, _-_, _≤_, _<_}
 use native.Mathlib.Nat.{le-antisymm, lt-of-not-le, le-of-suc-le-suc}
 use native.Mathlib.Decide.{decLe}
+use native.Mathlib.Numerals.{add-one}
 use native.Mathlib.Omega.{arith}
-use Rattle.basics.specs.Sums.{sumOf}
+use Rattle.basics.specs.Choose.{asNumber}
+use Rattle.basics.specs.Sums.{sumOf, countOf}
 
 -- ---- parts and the whole
 
@@ -59,3 +62,32 @@ module _ (f : ℕ → ℕ) where
         offset-in = w .offset-in;
         number = w .number;
       }
+
+-- ---- counts
+
+-- one more is counted
+pub count-next : (test : ℕ → Bool) (p : ℕ) → countOf test (p + 1) ≡ countOf test p + asNumber (test p)
+unfolding countOf sumOf
+count-next test p = ap (sumOf (λ i. asNumber (test i))) (add-one p)
+
+-- nothing is counted at first
+pub count-none : (test : ℕ → Bool) → countOf test 0 ≡ 0
+unfolding countOf sumOf
+count-none test = refl
+
+-- counts of equal tests are equal
+pub count-same : (test other : ℕ → Bool) (n : ℕ) → ((q : ℕ) → q < n → test q ≡ other q) → countOf test n ≡ countOf other n
+unfolding countOf sumOf
+count-same test other zero e = refl
+count-same test other (suc n) e =
+    omega (arith, count-same test other n (λ q h. e q (omega arith)), ap asNumber (e n (omega arith)))
+
+-- a count is at most what is counted over
+pub count-most : (test : ℕ → Bool) (n : ℕ) → countOf test n ≤ n
+unfolding countOf sumOf
+count-most test zero = omega arith
+count-most test (suc n) = omega (arith, count-most test n, one (test n))
+  where
+    one : (b : Bool) → asNumber b ≤ 1
+    one true = omega arith
+    one false = omega arith

@@ -1,5 +1,4 @@
--- The laws of the marks and of the sweep, and that every answer is determined.
-pub mod Marking
+-- The laws of the sweep, and that its answer is determined.
 pub mod Sweeping
 pub mod Facing
 pub mod Determined

@@ -1,5 +1,5 @@
 // The first gap among the busy stretches: one forward sweep over them, in order of their start.
-use crate::marks::marked_on;
+use marks::marked_on;
 ghost use mathlib.Core.Path.{_≡_};
 ghost use Rattle.stretches.specs.Busy.{busyOf, farthest};
 ghost use Rattle.gaps.specs.Gaps.{firstGap, gapAt, Sweep};

@@ -1,7 +1,5 @@
-// The gaps among the busy stretches: the marks of a path, and the first gap for a packet.
+// The gaps among the busy stretches: the first gap for a packet.
 mod gap;
-mod marks;
 
 pub use gap::Placed;
 pub use gap::sweep;
-pub use marks::stamp;

@@ -10,20 +10,22 @@ use Rattle.routes.specs.Route.{towards, leg, alongRow, alongColumn, corner, rou
 use Rattle.routes.specs.Share.{has, shares}
 use Rattle.time.specs.Units.{flitsOf, occupancyOf, turnsOf, latestOf}
 use Rattle.time.specs.Window.{overlaps}
-use Rattle.time.specs.Divisor.{gcdF, gcdOf, lcmOf}
-use Rattle.time.specs.Hyper.{lcmWith, hyperOf}
+use Rattle.hyper.specs.Divisor.{gcdF, gcdOf, lcmOf}
+use Rattle.hyper.specs.Hyper.{lcmWith, hyperOf}
 use Rattle.packet.specs.Packet.{mayStart, collide}
 use Rattle.packet.specs.Table.{packetAt, timeAt, outside, meets, meetsHigher, placed}
 use Rattle.model.specs.Flows.{numberOf, sourceOf, targetOf, periodOf, sizeOf, dueOf, flowsIn, linksOfFlow, occupancyIn}
 use Rattle.model.specs.Packets.{periodsOf, hyperIn, turnsIn, packetsIn, packetOf, packetsFrom, packetsOf}
-use Rattle.refusals.specs.Refusals.{outsideOf, badMesh, badList, badNodes, badTimes, tooLong, badHyper, badPackets, refuseIf, orElse, flowRefusal, badFlow, flowsRefusal, sumsRefusal, refusalOf}
+use Rattle.limits.specs.Limits.{outsideOf, badMesh, badList, badNodes, badTimes, tooLong}
+use Rattle.refusals.specs.Refusals.{badHyper, badPackets, refuseIf, orElse, flowRefusal, badFlow, flowsRefusal, sumsRefusal, refusalOf}
 use Rattle.model.specs.Answers.{refusedBy}
 use Rattle.placing.specs.Placing.{inTheWay, free, timeOf, slotsOf, takenOf, placedBy, placingOf}
 use Rattle.order.specs.Order.{insert, sorted, slackOf, slackAt}
 use Rattle.settling.specs.Settling.{raised}
 use Rattle.passes.specs.Pass.{passFrom, passOver}
 use Rattle.passes.specs.Passes.{passesFrom, ceiling, searchBy, skippedIn, lowestSkipped}
-use Rattle.search.specs.Answering.{badSettings, settingsRefusal, badTable, searchRefusal, numberFor, placeFor, foundAnswer, answerOf, tableAfter}
+use Rattle.reports.specs.Reports.{numberFor, placeFor}
+use Rattle.search.specs.Answering.{badSettings, settingsRefusal, badTable, searchRefusal, foundAnswer, answerOf, tableAfter}
 use Rattle.audit.specs.Check.{tooShort, checkRefusal, collided, passedWith, firstMeeting, verdictOf, checkOf}
 use Rattle.marked.specs.Examples.{Example, occupancyAt, onOneLink, meshA, flowsA, inShort, inFull, examples}
 

@@ -5,7 +5,7 @@ use lib.ListN.{replicate}
 use Rattle.basics.specs.Choose.{asNumber}
 use Rattle.routes.specs.Route.{routeOf}
 use Rattle.time.specs.Units.{flitsOf, occupancyOf, turnsOf, latestOf}
-use Rattle.time.specs.Hyper.{hyperOf}
+use Rattle.hyper.specs.Hyper.{hyperOf}
 use Rattle.packet.specs.Packet.{Packet, collide}
 use Rattle.model.specs.declared.flows.Mesh.{Mesh}
 use Rattle.model.specs.declared.answers.Answer.{Answer}

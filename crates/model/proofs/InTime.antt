@@ -13,8 +13,8 @@ use Rattle.mesh.specs.Link.{linkOf}
 use Rattle.routes.specs.Route.{alongRow, alongColumn, corner, routeOf}
 use Rattle.routes.proofs.Building.{last-room}
 use Rattle.time.specs.Units.{occupancyOf, turnsOf}
-use Rattle.time.specs.Hyper.{most, Periods}
-use Rattle.time.proofs.HyperPeriod.{hyper-multiple, hyper-positive}
+use Rattle.hyper.specs.Hyper.{most, Periods}
+use Rattle.hyper.proofs.HyperPeriod.{hyper-multiple, hyper-positive}
 use Rattle.packet.specs.Packet.{Packet}
 use Rattle.packet.specs.Table.{packetAt}
 use Rattle.model.specs.Flows.{sourceOf, targetOf, periodOf, dueOf, flowsIn, linksOfFlow, occupancyIn}

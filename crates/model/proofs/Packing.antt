@@ -11,9 +11,9 @@ use Rattle.basics.specs.Lists.{padded}
 use Rattle.basics.specs.Sums.{sumOf}
 use Rattle.basics.proofs.Lists.{tabulate-length, padded-take}
 use Rattle.time.specs.Units.{turnsOf}
-use Rattle.time.specs.Hyper.{most, hyperOf, hyperWithin}
-use Rattle.time.specs.declared.hyper.Hyper.the-variants.{Is}
-use Rattle.time.proofs.HyperPeriod.{within-is, within-above}
+use Rattle.hyper.specs.Hyper.{most, hyperOf, hyperWithin}
+use Rattle.hyper.specs.declared.hyper.Hyper.the-variants.{Is}
+use Rattle.hyper.proofs.HyperPeriod.{within-is, within-above}
 use Rattle.model.specs.Flows.{periodOf, flowsIn}
 use Rattle.model.specs.Packets.{periodsOf, hyperIn, turnsIn}
 

@@ -3,7 +3,7 @@ use mathlib.Core.Path.{_≡_}
 use mathlib.Core.List.{List}
 use Prim.Native.Nat.{ℕ, _+_, _*_, _≤_, _<_}
 use lib.ListN.{length}
-use Rattle.time.specs.Hyper.{most}
+use Rattle.hyper.specs.Hyper.{most}
 use Rattle.model.specs.Flows.{sourceOf, targetOf, periodOf, sizeOf, dueOf, flowsIn, occupancyIn}
 use Rattle.model.specs.Packets.{hyperIn, packetsIn}
 use Rattle.model.specs.declared.flows.Mesh.{Mesh}

@@ -4,7 +4,7 @@ use Prim.Native.Nat.{ℕ, zero, suc, _+_, _*_}
 use Rattle.basics.specs.Lists.{tabulate}
 use Rattle.basics.specs.Sums.{sumOf}
 use Rattle.time.specs.Units.{turnsOf}
-use Rattle.time.specs.Hyper.{hyperOf}
+use Rattle.hyper.specs.Hyper.{hyperOf}
 use Rattle.packet.specs.Packet.{Packet}
 use Rattle.model.specs.Flows.{periodOf, dueOf, flowsIn, linksOfFlow, occupancyIn}
 use Rattle.model.specs.declared.flows.Mesh.{Mesh}

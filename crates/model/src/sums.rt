@@ -1,11 +1,11 @@
 // The hyper-period and the number of packets.
 use crate::flows::number_of;
-use time::Hyper;
-use time::hyper_period;
+use hyper::Hyper;
+use hyper::hyper_period;
 ghost use mathlib.Core.Path.{_≡_};
 ghost use Prim.Native.Nat.{_≤_};
 ghost use Rattle.basics.specs.Lists.{padded};
-ghost use Rattle.time.specs.Hyper.{hyperWithin};
+ghost use Rattle.hyper.specs.Hyper.{hyperWithin};
 ghost use Rattle.model.specs.Packets.{periodsOf, hyperIn, packetsIn};
 ghost use Rattle.model.specs.Fair.{Timed};
 

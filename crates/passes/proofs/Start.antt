@@ -5,21 +5,14 @@ use Prim.Native.Nat.{ℕ, _+_, _<_}
 use native.Mathlib.Nat.{lt-of-not-le}
 use native.Mathlib.Decide.{decLe}
 use native.Mathlib.Omega.{arith}
-use lib.ListN.{length, getD, replicate, length-replicate, getD-replicate, List·getD-eq-default}
+use lib.ListN.{length, getD, replicate, length-replicate}
 use lib.Seq.{slice, getD-take}
 use Rattle.basics.proofs.Each.{each-at}
+use Rattle.basics.proofs.Lists.{fill-at}
 use Rattle.packet.specs.Packet.{Packet}
 use Rattle.order.specs.Order.{sorted, occurs}
 use Rattle.order.proofs.Ordering.{sorted-once, sorted-none, sorted-length, sorted-below}
 use Rattle.passes.specs.State.{Carried}
-
--- a list of zeros reads as 0 everywhere
-pub zeros-at : (n q : ℕ) → getD (replicate {A = ℕ} n 0) q 0 ≡ 0
-zeros-at n q =
-    elim (decLe n q) [
-      | yes a ↦ List·getD-eq-default (replicate n 0) 0 {n = q} (omega (arith, length-replicate {A = ℕ} n 0))
-      | no a ↦ getD-replicate {A = ℕ} n q 0 0 (lt-of-not-le a)
-    ]
 
 -- what is carried over at first
 pub carried-start : (key : ℕ → ℕ) (ps : List Packet) (g : ℕ) → 0 < g → (order fails : List ℕ) → length order ≡ 1024 → fails ≡ replicate 1024 0
@@ -40,5 +33,5 @@ carried-start key ps g low order fails long z e =
             | yes a ↦ omega (arith, ap (occurs q) e, sorted-none key (length ps) q a)
             | no a ↦ omega (arith, ap (occurs q) e, sorted-once key (length ps) q (lt-of-not-le a))
           ];
-      below = λ q h. omega (arith, ap (λ (xs : List ℕ). getD xs q 0) z, zeros-at 1024 q, low);
+      below = λ q h. omega (arith, ap (λ (xs : List ℕ). getD xs q 0) z, fill-at {X = ℕ} 0 1024 q, low);
     }

@@ -9,7 +9,7 @@ use native.Mathlib.Omega.{arith}
 use lib.ListN.{length, getD, set, take, length-set}
 use lib.Seq.{slice, getD-take, length-take-le, take-set-lt}
 use Rattle.basics.proofs.Choose.{not-passing}
-use Rattle.time.specs.Hyper.{most}
+use Rattle.hyper.specs.Hyper.{most}
 use Rattle.time.specs.Units.{latestOf}
 use Rattle.packet.specs.Packet.{Packet}
 use Rattle.packet.specs.Table.{packetAt, placed}

@@ -5,7 +5,7 @@ use mathlib.Core.List.{List}
 use Prim.Native.Nat.{ℕ, _+_, _*_, _≤_, _<_}
 use lib.ListN.{length, getD, take}
 use lib.Seq.{slice}
-use Rattle.time.specs.Hyper.{most}
+use Rattle.hyper.specs.Hyper.{most}
 use Rattle.packet.specs.Packet.{Packet}
 use Rattle.packet.specs.Table.{placed}
 use Rattle.order.specs.Order.{occurs}

@@ -1,7 +1,7 @@
 // Placing one packet among the busy stretches that the placed packets hold.
 use gaps::Placed;
-use gaps::stamp;
 use gaps::sweep;
+use marks::stamp;
 use stretches::Extent;
 use stretches::first_after;
 ghost use mathlib.Core.Path.{_≡_};
@@ -10,7 +10,7 @@ ghost use Prim.Native.Nat.{ℕ, _<_};
 ghost use lib.ListN.{length, getD};
 ghost use Rattle.packet.specs.Packet.{Packet};
 ghost use Rattle.stretches.specs.Busy.{busyOf, Ordered};
-ghost use Rattle.gaps.specs.Gaps.{stamped};
+ghost use Rattle.marks.specs.Marks.{stamped};
 ghost use Rattle.placing.specs.Held.{Over, loadOf, Held, Place};
 ghost use Rattle.placing.specs.Placing.{placingOf};
 ghost use Rattle.stretches.specs.Covers.{Covers};

@@ -6,7 +6,8 @@ use Prim.Native.Nat.{ℕ, _+_}
 use native.Mathlib.Omega.{arith}
 use borrow.Author.Tests.{ne-eqb}
 use Rattle.model.specs.Answers.{refusedBy}
-use Rattle.refusals.specs.Refusals.{badMesh, badList, flowsRefusal, sumsRefusal, refuseIf, orElse, refusalOf}
+use Rattle.limits.specs.Limits.{badMesh, badList}
+use Rattle.refusals.specs.Refusals.{flowsRefusal, sumsRefusal, refuseIf, orElse, refusalOf}
 use Rattle.model.specs.declared.answers.Refusal.{Refusal}
 use Rattle.model.specs.declared.flows.Mesh.{Mesh}
 use Rattle.refusals.proofs.Order.{refuse-none, refuse-by, or-stays, or-none}

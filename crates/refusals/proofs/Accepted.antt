@@ -1,138 +1,34 @@
--- What the tests leave: numbers that get past a test are in their ranges (`..-fair`), and numbers in their ranges get past it
--- (`..-passes`). In document 01's order: 2; 4; 5, 6 and 7 of a flow; all flows; 8 and 9; then
+-- What the tests leave: numbers that get past all tests are in their ranges (`..-fair`), and numbers in their ranges get past them
+-- (`..-passes`). In document 01's order: a flow; all flows; 8 and 9; then
 -- the whole, `accepted-fair` and `fair-accepted`.
 use mathlib.Core.Path.{_≡_, refl, ap}
 use mathlib.Core.Bool.{Bool, true, false, not}
 use mathlib.Core.List.{List}
-use Prim.Native.Nat.{ℕ, _%_, _≤_, _<_}
+use Prim.Native.Nat.{ℕ, _≤_, _<_}
 use native.Mathlib.Omega.{arith}
 use lib.Dec.{ltb}
-use lib.ListN.{length}
-use borrow.Author.Tests.{ltb-true, ltb-false, lt-ltb, le-ltb, leb-false, lt-leb, eqb-true, eqb-false, eq-eqb, ne-eqb, not-true, not-false}
+use borrow.Author.Tests.{ltb-true, ltb-false, lt-ltb, le-ltb, eqb-true, eqb-false, eq-eqb, ne-eqb, not-true, not-false}
 use Rattle.basics.specs.Choose.{choose}
 use Rattle.basics.specs.First.{first}
 use Rattle.basics.proofs.First.{first-is, first-least, first-passes, first-none}
-use Rattle.time.specs.Hyper.{most}
-use Rattle.model.specs.Flows.{periodOf, sizeOf, dueOf, flowsIn, occupancyIn}
+use Rattle.hyper.specs.Hyper.{most}
+use Rattle.model.specs.Flows.{flowsIn}
 use Rattle.model.specs.Packets.{hyperIn, packetsIn}
-use Rattle.refusals.specs.Refusals.{badMesh, badList, badNodes, badTimes, tooLong, badHyper, badPackets, badFlow, accepted, refuseIf, orElse, flowRefusal, flowsRefusal, sumsRefusal, refusalOf}
-use Rattle.model.specs.Fair.{FairMesh, FairList, FairNodes, FairTimes, Listed, FairFlow, Fair}
+use Rattle.limits.specs.Limits.{badList}
+use Rattle.refusals.specs.Refusals.{badHyper, badPackets, badFlow, accepted, refuseIf, orElse, flowRefusal, flowsRefusal, sumsRefusal, refusalOf}
+use Rattle.model.specs.Fair.{FairMesh, FairList, Listed, FairFlow, Fair}
 use Rattle.model.specs.declared.flows.Mesh.{Mesh}
 use Rattle.model.specs.declared.answers.Refusal.{Refusal}
-use Rattle.refusals.proofs.Order.{neither, none-of, inside, within, refuse-none, refuse-not, or-none}
+use Rattle.limits.proofs.Past.{mesh-fair, mesh-passes, list-fair, list-passes, nodes-fair, nodes-passes, times-fair, times-passes, long-fair, long-passes}
+use Rattle.refusals.proofs.Order.{refuse-none, refuse-not, or-none}
 
--- ---- 2
+-- ---- a flow
 
--- past 2, mesh numbers are in their ranges
-pub mesh-fair : (mesh : Mesh) → badMesh mesh ≡ false → FairMesh mesh
-unfolding badMesh
-mesh-fair mesh e =
-    let first = neither _ _ e in
-    let second = neither _ _ (first .1) in
-    let third = neither _ _ (second .1) in
-    let columns = inside 1 16 (mesh .columns) (first .0) in
-    let rows = inside 1 16 (mesh .rows) (second .0) in
-    let r = inside 1 64 (mesh .r) (third .0) in
-    let flit = inside 1 64 (mesh .flit) (third .1) in
-    record {
-      columns-low = columns .0;
-      columns-high = columns .1;
-      rows-low = rows .0;
-      rows-high = rows .1;
-      r-low = r .0;
-      r-high = r .1;
-      flit-low = flit .0;
-      flit-high = flit .1;
-    }
-
--- mesh numbers in their ranges get past 2
-pub mesh-passes : (mesh : Mesh) → FairMesh mesh → badMesh mesh ≡ false
-unfolding badMesh
-mesh-passes mesh m =
-    none-of _ _ (within 1 16 (mesh .columns) (m .columns-low) (m .columns-high))
-    (none-of _ _ (within 1 16 (mesh .rows) (m .rows-low) (m .rows-high))
-    (none-of _ _ (within 1 64 (mesh .r) (m .r-low) (m .r-high)) (within 1 64 (mesh .flit) (m .flit-low) (m .flit-high))))
-
--- ---- 4
-
--- past 4, the list is whole flows, 1 to 64 of them
-pub list-fair : (numbers : List ℕ) → badList numbers ≡ false → FairList numbers
-unfolding badList flowsIn
-list-fair numbers e =
-    let both = neither _ _ e in
-    let rest : length numbers % 5 ≡ 0 = eqb-true _ 0 (not-false _ (both .0)) in
-    let flows = inside 1 64 (flowsIn numbers) (both .1) in
-    record { whole = omega arith; flows-low = flows .0; flows-high = flows .1 }
-
--- whole flows, 1 to 64 of them, get past 4
-pub list-passes : (numbers : List ℕ) → FairList numbers → badList numbers ≡ false
-unfolding badList flowsIn
-list-passes numbers l =
-    let rest : length numbers % 5 ≡ 0 = omega (arith, l .whole) in
-    none-of _ _ (ap not (eq-eqb (length numbers % 5) 0 rest)) (within 1 64 (flowsIn numbers) (l .flows-low) (l .flows-high))
-
--- a flow of such a list has its five numbers in it
+-- a flow of a list past 4 has its five numbers in it
 pub listed-at : (mesh : Mesh) (numbers : List ℕ) (f : ℕ) → FairMesh mesh → FairList numbers → f < flowsIn numbers → Listed mesh numbers f
 listed-at mesh numbers f m l h = record { fair-mesh = m; few = omega arith; listed = omega arith }
 
--- ---- 5, 6 and 7 of flow f
-
 module _ (mesh : Mesh) (numbers : List ℕ) (f : ℕ) where
-  -- past 5, source and target are two nodes
-  pub nodes-fair : badNodes mesh numbers f ≡ false → FairNodes mesh numbers f
-  unfolding badNodes
-  nodes-fair e =
-      let first = neither _ _ e in
-      let second = neither _ _ (first .1) in
-      record {
-        source-in = leb-false _ _ (first .0);
-        target-in = leb-false _ _ (second .0);
-        apart = eqb-false _ _ (second .1);
-      }
-
-  -- two nodes get past 5
-  pub nodes-passes : FairNodes mesh numbers f → badNodes mesh numbers f ≡ false
-  unfolding badNodes
-  nodes-passes n = none-of _ _ (lt-leb _ _ (n .source-in)) (none-of _ _ (lt-leb _ _ (n .target-in)) (ne-eqb _ _ (n .apart)))
-
-module _ (numbers : List ℕ) (f : ℕ) where
-  -- past 6, period, size and deadline are in their ranges
-  pub times-fair : badTimes numbers f ≡ false → FairTimes numbers f
-  unfolding badTimes
-  times-fair e =
-      let first = neither _ _ e in
-      let second = neither _ _ (first .1) in
-      let period = inside 1 most (periodOf numbers f) (first .0) in
-      let size = inside 1 65536 (sizeOf numbers f) (second .0) in
-      let due = inside 1 (periodOf numbers f) (dueOf numbers f) (second .1) in
-      record {
-        period-low = period .0;
-        period-high = period .1;
-        size-low = size .0;
-        size-high = size .1;
-        due-low = due .0;
-        due-high = due .1;
-      }
-
-  -- period, size and deadline in their ranges get past 6
-  pub times-passes : FairTimes numbers f → badTimes numbers f ≡ false
-  unfolding badTimes
-  times-passes t =
-      none-of _ _ (within 1 most (periodOf numbers f) (t .period-low) (t .period-high))
-      (none-of _ _ (within 1 65536 (sizeOf numbers f) (t .size-low) (t .size-high))
-      (within 1 (periodOf numbers f) (dueOf numbers f) (t .due-low) (t .due-high)))
-
-module _ (mesh : Mesh) (numbers : List ℕ) (f : ℕ) where
-  -- past 7, the occupancy is at most D
-  pub long-fair : tooLong mesh numbers f ≡ false → occupancyIn mesh numbers f ≤ dueOf numbers f
-  unfolding tooLong
-  long-fair e = ltb-false _ _ e
-
-  -- an occupancy of at most D gets past 7
-  pub long-passes : occupancyIn mesh numbers f ≤ dueOf numbers f → tooLong mesh numbers f ≡ false
-  unfolding tooLong
-  long-passes h = le-ltb _ _ h
-
   -- a flow that is not refused passes every test of its own
   pub flow-fair : flowRefusal mesh numbers f .number ≡ 0 → FairFlow mesh numbers f
   unfolding flowRefusal
@@ -142,14 +38,14 @@ module _ (mesh : Mesh) (numbers : List ℕ) (f : ℕ) where
       record {
         nodes = nodes-fair mesh numbers f (refuse-none _ 5 f (omega arith) (first .0));
         times = times-fair numbers f (refuse-none _ 6 f (omega arith) (second .0));
-        fits = long-fair (refuse-none _ 7 f (omega arith) (second .1));
+        fits = long-fair mesh numbers f (refuse-none _ 7 f (omega arith) (second .1));
       }
 
   -- a flow that passes every test of its own is not refused
   pub flow-passes : FairFlow mesh numbers f → flowRefusal mesh numbers f ≡ accepted
   unfolding flowRefusal orElse
   flow-passes p =
-      rw (refuse-not _ 5 f (nodes-passes mesh numbers f (p .nodes)), refuse-not _ 6 f (times-passes numbers f (p .times)), refuse-not _ 7 f (long-passes (p .fits)))
+      rw (refuse-not _ 5 f (nodes-passes mesh numbers f (p .nodes)), refuse-not _ 6 f (times-passes numbers f (p .times)), refuse-not _ 7 f (long-passes mesh numbers f (p .fits)))
 
   -- a flow is good where it is not refused
   pub flow-good : flowRefusal mesh numbers f .number ≡ 0 → badFlow mesh numbers f ≡ false

@@ -1,48 +1,15 @@
--- Laws of tests and refusals that stand in a row.
--- In order: one test or the other; numbers outside a range; a refusal where a test passes; the first refusal, or the second where
+-- Laws of refusals that stand in a row.
+-- In order: a refusal where a test passes; the first refusal, or the second where
 -- the first is none; and claims that hold of every refusal of a row.
-use mathlib.Core.Path.{_≡_, refl, sym, _∙_}
+use mathlib.Core.Path.{_≡_, refl}
 use mathlib.Core.Bool.{Bool, true, false, true≢false}
-use Prim.Native.Nat.{ℕ, _≤_, _<_}
+use Prim.Native.Nat.{ℕ, _<_}
 use native.Mathlib.Omega.{arith}
 use lib.Dec.{eqb}
-use borrow.Author.Tests.{ltb-false, le-ltb, eq-eqb, ne-eqb, eqb-true, eqb-false}
-use Rattle.basics.specs.Choose.{choose, either}
-use Rattle.refusals.specs.Refusals.{outsideOf, accepted, refuseIf, orElse}
+use borrow.Author.Tests.{eq-eqb, ne-eqb, eqb-true, eqb-false}
+use Rattle.basics.specs.Choose.{choose}
+use Rattle.refusals.specs.Refusals.{accepted, refuseIf, orElse}
 use Rattle.model.specs.declared.answers.Refusal.{Refusal}
-
--- ---- `either`
-
--- where not one of two tests passes, neither does
-pub neither : (a b : Bool) → either a b ≡ false → (a ≡ false) × (b ≡ false)
-neither true b e = absurd (true≢false e)
-neither false b e = (refl, e)
-
--- where the first test passes, one does
-pub first-of : (a b : Bool) → a ≡ true → either a b ≡ true
-first-of true b e = refl
-first-of false b e = absurd (true≢false (sym e))
-
--- where the first test does not pass, the second decides
-pub rest-of : (a b : Bool) → a ≡ false → either a b ≡ b
-rest-of true b e = absurd (true≢false e)
-rest-of false b e = refl
-
--- where neither of two tests passes, not one does
-pub none-of : (a b : Bool) → a ≡ false → b ≡ false → either a b ≡ false
-none-of a b p q = rest-of a b p ∙ q
-
--- ---- `outsideOf`
-
--- a number that is not outside a range is in it
-pub inside : (low high n : ℕ) → outsideOf low high n ≡ false → (low ≤ n) × (n ≤ high)
-unfolding outsideOf
-inside low high n e = let p = neither _ _ e in (ltb-false n low (p .0), ltb-false high n (p .1))
-
--- a number in a range is not outside it
-pub within : (low high n : ℕ) → low ≤ n → n ≤ high → outsideOf low high n ≡ false
-unfolding outsideOf
-within low high n p q = none-of _ _ (le-ltb n low p) (le-ltb high n q)
 
 -- ---- `refuseIf`
 

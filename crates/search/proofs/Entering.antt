@@ -14,14 +14,17 @@ use Rattle.basics.specs.Sums.{countOf}
 use Rattle.basics.proofs.First.{first-same}
 use Rattle.packet.specs.Packet.{Packet}
 use Rattle.model.specs.Packets.{hyperIn, packetsIn, packetsOf}
-use Rattle.refusals.specs.Refusals.{outsideOf, refuseIf, refusalOf}
+use Rattle.limits.specs.Limits.{outsideOf}
+use Rattle.refusals.specs.Refusals.{refuseIf, refusalOf}
 use Rattle.model.specs.Answers.{refusedBy}
 use Rattle.model.specs.Fair.{Fair}
 use Rattle.arrays.specs.Arrays.{modelOf}
 use Rattle.model.specs.declared.flows.Mesh.{Mesh}
 use Rattle.model.specs.declared.answers.Refusal.{Refusal}
 use Rattle.arrays.specs.declared.build.Model.{Model}
-use Rattle.refusals.proofs.Order.{neither, inside, refuse-none, or-next, or-stays}
+use Rattle.basics.proofs.Choose.{neither}
+use Rattle.limits.proofs.Past.{inside}
+use Rattle.refusals.proofs.Order.{refuse-none, or-next, or-stays}
 use Rattle.refusals.proofs.Accepted.{accepted-fair, accepted-between}
 use Rattle.model.proofs.Numbering.{packets-length}
 use Rattle.arrays.proofs.Reading.{model-count}
@@ -30,9 +33,10 @@ use Rattle.order.specs.Order.{slackAt}
 use Rattle.passes.specs.Passes.{Found, searchOf, skippedIn, lowestSkipped}
 use Rattle.passes.specs.Search.{foundOf, Searched}
 use Rattle.passes.specs.declared.repeat.Outcome.{Outcome}
-use Rattle.search.specs.Answering.{badSettings, settingsRefusal, badTable, searchRefusal, reportOf, foundAnswer, answerOf, tableAfter}
+use Rattle.reports.specs.Reports.{reportOf}
+use Rattle.search.specs.Answering.{badSettings, settingsRefusal, badTable, searchRefusal, foundAnswer, answerOf, tableAfter}
 use Rattle.search.specs.Spread.{Modelled}
-use Rattle.search.proofs.Reporting.{count-same}
+use Rattle.basics.proofs.Sums.{count-same}
 use Rattle.search.proofs.Modelling.{fair-modelled}
 
 module _ (mesh : Mesh) (f g : ℕ) (numbers table : List ℕ) where

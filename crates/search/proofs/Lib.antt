@@ -1,5 +1,4 @@
 -- The laws of the search.
-pub mod Reporting
 pub mod Spreading
 pub mod Slack
 pub mod Modelling

@@ -13,7 +13,7 @@ use Rattle.basics.specs.Lists.{tabulate, padded}
 use Rattle.basics.proofs.Lists.{tabulate-length, padded-length}
 use Rattle.routes.specs.Route.{pathOf, linksOf}
 use Rattle.routes.specs.declared.paths.Path.{Path}
-use Rattle.time.specs.Hyper.{most}
+use Rattle.hyper.specs.Hyper.{most}
 use Rattle.packet.specs.Packet.{Packet}
 use Rattle.model.specs.Flows.{flowsIn, linksOfFlow, occupancyIn}
 use Rattle.model.specs.Packets.{packetsIn, packetOf, packetsOf}

@@ -19,7 +19,8 @@ use Rattle.packet.specs.Packet.{Packet}
 use Rattle.packet.specs.Table.{packetAt, timeAt, passes, none, placed}
 use Rattle.model.specs.Packets.{packetsIn, packetsOf}
 use Rattle.model.specs.Flows.{flowsIn}
-use Rattle.refusals.specs.Refusals.{badMesh, badList, badNodes, badTimes, tooLong, badHyper, badPackets, badFlow, refuseIf, orElse, flowRefusal, flowsRefusal, sumsRefusal, refusalOf}
+use Rattle.limits.specs.Limits.{badMesh, badList, badNodes, badTimes, tooLong}
+use Rattle.refusals.specs.Refusals.{badHyper, badPackets, badFlow, refuseIf, orElse, flowRefusal, flowsRefusal, sumsRefusal, refusalOf}
 use Rattle.model.specs.Answers.{refusedBy}
 use Rattle.model.specs.declared.flows.Mesh.{Mesh}
 use Rattle.model.specs.declared.answers.Refusal.{Refusal}
@@ -31,8 +32,9 @@ use Rattle.order.specs.Order.{slackAt}
 use Rattle.passes.specs.Passes.{Found, searchOf, skippedIn, lowestSkipped}
 use Rattle.passes.proofs.Sound.{Safe}
 use Rattle.passes.proofs.Complete.{search-length, search-safe, complete-passes, skipped-holds}
-use Rattle.search.specs.Answering.{settingsRefusal, badTable, searchRefusal, numberFor, placeFor, foundAnswer, answerOf, tableAfter}
-use Rattle.search.proofs.Reporting.{count-same}
+use Rattle.reports.specs.Reports.{numberFor, placeFor}
+use Rattle.search.specs.Answering.{settingsRefusal, badTable, searchRefusal, foundAnswer, answerOf, tableAfter}
+use Rattle.basics.proofs.Sums.{count-same}
 use Rattle.search.proofs.Entering.{entry-fair}
 
 -- ---- a table with more places than packets

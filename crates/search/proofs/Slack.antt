@@ -2,11 +2,10 @@
 use mathlib.Core.Path.{_≡_, refl, _∙_, ap, subst, fun-ext}
 use mathlib.Core.List.{List}
 use Prim.Native.Nat.{ℕ, _+_, _<_}
-use native.Mathlib.Nat.{lt-of-not-le}
-use native.Mathlib.Decide.{decLe, ℕ-discrete}
+use native.Mathlib.Nat.{zero-add, lt-of-not-le}
+use native.Mathlib.Decide.{decLe}
 use native.Mathlib.Omega.{arith}
-use lib.ListN.{length, getD, set, length-set, List·getD-eq-default}
-use lib.Seq.{getD-set-same, getD-set-other}
+use lib.ListN.{length, getD, List·getD-eq-default}
 use Rattle.packet.specs.Packet.{Packet, absent}
 use Rattle.packet.specs.Table.{packetAt}
 use Rattle.arrays.specs.Arrays.{packetIn}
@@ -15,21 +14,10 @@ use Rattle.order.specs.Lists.{keyIn}
 use Rattle.order.specs.Order.{slackOf, slackAt}
 use Rattle.passes.specs.Search.{Searched}
 use Rattle.passes.specs.declared.repeat.Outcome.{Outcome}
-use Rattle.search.specs.Slack.{slackIn, Keyed, Slacks, SlacksOf}
+use Rattle.basics.specs.Lists.{tabulate}
+use Rattle.basics.proofs.Lists.{tabulate-length, tabulate-at, padded-length, padded-at, padded-past}
+use Rattle.keys.specs.Slack.{slackIn, Keyed, slacksOf}
 use Rattle.search.specs.Spread.{Modelled}
-
--- one more is stored
-pub slacks-next : {flow due occupancy key : List ℕ} {i : ℕ} → i < 1024 → Slacks flow due occupancy i key
-    → Slacks flow due occupancy (i + 1) (set key i (slackIn flow due occupancy i))
-slacks-next {key = key} {i = i} h s = record {
-  long = length-set key i _ ∙ s .long;
-  within = λ p l.
-      elim (ℕ-discrete p i) [
-        | yes a ↦ rw a (getD-set-same key i _ 0 (omega (arith, s .long)))
-        | no a ↦ getD-set-other key i p _ 0 a ∙ s .within p (omega (arith, a))
-      ];
-  past = λ p l. getD-set-other key i p _ 0 (λ e. omega arith) ∙ s .past p (omega arith);
-}
 
 module _ {ps : List Packet} {model : Model} {f g : ℕ} (m : Modelled ps model f g) where
   -- the deadline and the occupancy of a packet, read off the arrays
@@ -52,18 +40,31 @@ module _ {ps : List Packet} {model : Model} {f g : ℕ} (m : Modelled ps model f
   }
 
   -- the key of a packet is its slack
-  key-at : {key : List ℕ} → SlacksOf model key → (p : ℕ) → keyIn key p ≡ slackAt ps p
-  unfolding keyIn slackAt slackOf packetAt slackIn
-  key-at s p =
+  key-at : (p : ℕ) → keyIn (slacksOf model) p ≡ slackAt ps p
+  unfolding keyIn slackAt slackOf packetAt slackIn slacksOf
+  key-at p =
+      let slack : ℕ → ℕ = slackIn (model .packets .flow) (model .flows .due) (model .flows .occupancy) in
+      let count = model .packets .count in
+      let long : length (tabulate slack 0 count) ≡ count = tabulate-length slack 0 count in
       elim (decLe (length ps) p) [
         | yes a ↦
             let none : getD ps p absent ≡ absent = List·getD-eq-default ps absent {n = p} a in
-            s .past p (omega (arith, m .count)) ∙ rw none refl
+            padded-past 1024 0 (tabulate slack 0 count) p (omega (arith, m .count, long)) ∙ rw none refl
         | no a ↦
             let l : p < length ps = lt-of-not-le a in
-            s .within p (omega (arith, m .count)) ∙ omega (arith, due-is p l, span-is p l, m .fits p l)
+            let h : p < count = omega (arith, m .count) in
+            padded-at 1024 0 (tabulate slack 0 count) p 0 (omega (arith, long)) ∙ tabulate-at slack 0 count p 0 h ∙ ap slack (zero-add p)
+            ∙ omega (arith, due-is p l, span-is p l, m .fits p l)
       ]
 
   -- so what the passes leave is what the search leaves in order of least slack
-  pub searched-slack : {key : List ℕ} → SlacksOf model key → {r : Outcome} → Searched ps (keyIn key) f g r → Searched ps (slackAt ps) f g r
-  searched-slack s {r} found = subst (λ (k : ℕ → ℕ). Searched ps k f g r) (fun-ext (key-at s)) found
+  pub searched-slack : {r : Outcome} → Searched ps (keyIn (slacksOf model)) f g r → Searched ps (slackAt ps) f g r
+  searched-slack {r} found = subst (λ (k : ℕ → ℕ). Searched ps k f g r) (fun-ext key-at) found
+
+  -- there are 1,024 of them
+  pub slacks-long : length (slacksOf model) ≡ 1024
+  unfolding slacksOf
+  slacks-long =
+      let slack : ℕ → ℕ = slackIn (model .packets .flow) (model .flows .due) (model .flows .occupancy) in
+      let long : length (tabulate slack 0 (model .packets .count)) ≡ model .packets .count = tabulate-length slack 0 (model .packets .count) in
+      padded-length 1024 0 (tabulate slack 0 (model .packets .count)) (omega (arith, m .count, m .few, long))

@@ -4,7 +4,7 @@ use mathlib.Core.List.{List}
 use Prim.Native.Nat.{ℕ, _+_, _*_, _≤_, _<_}
 use lib.ListN.{length, getD}
 use Rattle.routes.specs.declared.paths.Path.{Path}
-use Rattle.time.specs.Hyper.{most}
+use Rattle.hyper.specs.Hyper.{most}
 use Rattle.packet.specs.Packet.{Packet}
 use Rattle.packet.specs.Table.{packetAt}
 use Rattle.arrays.specs.Arrays.{noPath, packetIn}

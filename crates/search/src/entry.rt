@@ -1,5 +1,4 @@
 // The search: refusals first, then the passes, then the table and the answer.
-use crate::report::report;
 use crate::spread::run;
 use arrays::model_of;
 use model::Answer;
@@ -7,6 +6,7 @@ use model::Mesh;
 use model::Refusal;
 use model::refused;
 use refusals::refusal;
+use reports::report;
 ghost use mathlib.Core.Path.{_≡_};
 ghost use Rattle.search.specs.Answering.{badSettings, settingsRefusal, answerOf, tableAfter};
 

@@ -1,6 +1,6 @@
 // The passes over a model: its paths go into one array of links, 32 places to a flow.
-use crate::keys::slacks;
 use arrays::Model;
+use keys::slacks;
 use passes::Outcome;
 use passes::rounds;
 use routes::Path;

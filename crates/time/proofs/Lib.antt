@@ -1,5 +1,3 @@
--- The laws of divisors and multiples, of the hyper-period and of windows, and that every answer is determined.
-pub mod Divisor
-pub mod HyperPeriod
+-- The laws of windows, and that every answer is determined.
 pub mod Windows
 pub mod Determined

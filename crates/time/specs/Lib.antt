@@ -1,5 +1,3 @@
--- Units, windows and the hyper-period.
+-- Units and windows.
 pub mod Units
 pub mod Window
-pub mod Divisor
-pub mod Hyper

@@ -1,12 +1,7 @@
-// Bytes, flits and cycles; windows; the hyper-period.
-mod hyper;
+// Bytes, flits and cycles; windows.
 mod units;
 mod window;
 
-pub use hyper::Hyper;
-pub use hyper::MOST;
-pub use hyper::gcd;
-pub use hyper::hyper_period;
 pub use units::Bytes;
 pub use units::Cycles;
 pub use units::Flits;

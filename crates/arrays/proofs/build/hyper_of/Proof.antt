@@ -1,7 +1,7 @@
 -- An H that is found is the least common multiple, and one at the limit or below is found.
 use mathlib.Core.Path.{sym, _∙_}
 use native.Mathlib.Omega.{arith}
-use Rattle.time.proofs.HyperPeriod.{above-only}
+use Rattle.hyper.proofs.HyperPeriod.{above-only}
 use Rattle.model.specs.Packets.{hyperIn}
 use Rattle.model.proofs.Packing.{is-only}
 use borrow.Author.Needs.{needs}

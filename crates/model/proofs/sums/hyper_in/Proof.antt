@@ -2,7 +2,7 @@
 use mathlib.Core.Path.{_≡_, sym, _∙_, ap}
 use lib.ListN.{length, take}
 use Rattle.basics.proofs.Lists.{tabulate-length}
-use Rattle.time.specs.Hyper.{hyperWithin}
+use Rattle.hyper.specs.Hyper.{hyperWithin}
 use Rattle.model.specs.Flows.{periodOf, flowsIn}
 use Rattle.model.specs.Packets.{periodsOf}
 use Rattle.model.proofs.InTime.{periods-fair}

@@ -1,5 +1,5 @@
 -- `packets_in` adds up the turns of one flow after the other (`Counted`); 64 flows of at most 16,777,216 packets stay in 32 bits.
-use Rattle.time.specs.Hyper.{most}
+use Rattle.hyper.specs.Hyper.{most}
 use Rattle.model.specs.Packets.{hyperIn, turnsIn, packetsIn}
 use Prim.Native.Nat.{ℕ, _+_, _-_, _*_, _/_, _≤_}
 use mathlib.Core.Path.{_≡_, refl, _∙_, ap, ap₂}

@@ -1,12 +1,11 @@
 -- `next_meeting` returns at the first higher packet whose window overlaps and whose path shares a link.
-use mathlib.Core.Path.{sym, _∙_}
+use mathlib.Core.Path.{sym, _∙_, _≡_}
 use mathlib.Core.Logic.{⊎-elim}
 use borrow.Author.Count.{below-more}
 use Rattle.basics.proofs.First.{first-is, first-none}
 use Rattle.packet.specs.Table.{timeAt}
 use Rattle.arrays.specs.Arrays.{packetIn}
 use Rattle.pairs.proofs.Walks.{over-soon, not-lower, not-overlapping, not-sharing, met}
-use mathlib.Core.Path.{_≡_}
 use mathlib.Core.Bool.{false}
 use Prim.Native.Nat.{ℕ, _-_, _≤_, _<_}
 use native.Mathlib.Omega.{arith}

@@ -2,7 +2,7 @@
 use native.Mathlib.Omega.{arith}
 use mathlib.Core.Path.{_∙_, ap}
 use lib.ListN.{length, take}
-use Rattle.gaps.proofs.Marking.{stamped-length}
+use Rattle.marks.proofs.Marking.{stamped-length}
 use Rattle.passes.proofs.Stepping.{next-in, next-below, place-asks, tries-few, settles, after-placed}
 use Rattle.passes.proofs.Failing.{all-few, after-turned}
 use borrow.Author.Needs.{needs}

@@ -5,9 +5,10 @@ use mathlib.Core.Path.{refl, sym, _∙_, ap, subst}
 use mathlib.Core.List.{List}
 use Prim.Native.Nat.{ℕ, _-_}
 use lib.ListN.{getD}
-use Rattle.gaps.specs.Gaps.{gapAt, Marked}
+use Rattle.gaps.specs.Gaps.{gapAt}
+use Rattle.marks.specs.Marks.{Marked}
 use Rattle.placing.specs.Held.{flowAt}
-use Rattle.gaps.proofs.Marking.{marked-stamped}
+use Rattle.marks.proofs.Marking.{marked-stamped}
 use Rattle.placing.proofs.Bridging.{kept-far, gap-far, placing-same}
 use borrow.Author.Needs.{needs}
 use Rattle.placing.proofs.start.place.Statement.{statement}

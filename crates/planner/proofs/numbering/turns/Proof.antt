@@ -1,10 +1,9 @@
 -- `turns` stores one turn behind those before it in each round.
-use lib.ListN.{length-set}
+use lib.ListN.{length-set, length, set}
 use mathlib.Core.Path.{_≡_, _∙_, ap}
 use mathlib.Core.List.{List}
 use Prim.Native.Nat.{ℕ, _-_, _≤_}
 use native.Mathlib.Omega.{arith}
-use lib.ListN.{length, set}
 use Rattle.basics.specs.Lists.{tabulate, padded}
 use Rattle.basics.proofs.Lists.{padded-tabulate}
 use Rattle.arrays.specs.Arrays.{packetIn}

@@ -1,5 +1,5 @@
 -- `first_outside` returns at the first packet whose time is before its release or after its latest start.
-use mathlib.Core.Path.{sym}
+use mathlib.Core.Path.{sym, _≡_}
 use lib.ListN.{getD}
 use borrow.Author.Count.{below-none, below-more}
 use Rattle.basics.proofs.First.{first-is, first-none}
@@ -7,7 +7,6 @@ use Rattle.time.specs.Units.{latestOf}
 use Rattle.packet.specs.Table.{timeAt}
 use Rattle.arrays.specs.Arrays.{packetIn}
 use Rattle.ranges.proofs.Times.{early, late, timely}
-use mathlib.Core.Path.{_≡_}
 use mathlib.Core.Bool.{false}
 use Prim.Native.Nat.{ℕ, _-_, _≤_, _<_}
 use native.Mathlib.Omega.{arith}

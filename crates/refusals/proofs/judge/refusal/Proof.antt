@@ -2,10 +2,12 @@
 use mathlib.Core.Path.{_≡_, sym, _∙_, ap}
 use mathlib.Core.Bool.{false}
 use denote.Ref.{now}
-use Rattle.refusals.specs.Refusals.{badMesh, badList, refuseIf, orElse, flowsRefusal, refusalOf}
+use Rattle.limits.specs.Limits.{badMesh, badList}
+use Rattle.refusals.specs.Refusals.{refuseIf, orElse, flowsRefusal, refusalOf}
 use borrow.Author.Tests.{eq-eqb, ne-eqb}
 use Rattle.model.specs.declared.answers.Refusal.{Refusal}
-use Rattle.refusals.proofs.Accepted.{mesh-fair, list-fair, flows-fair}
+use Rattle.limits.proofs.Past.{mesh-fair, list-fair}
+use Rattle.refusals.proofs.Accepted.{flows-fair}
 use borrow.Author.Needs.{needs}
 use Rattle.refusals.proofs.judge.refusal.Statement.{statement}
 use Rattle.refusals.proofs.judge.refusal.Tie as tie

@@ -2,8 +2,9 @@
 use mathlib.Core.Path.{_≡_, sym, _∙_}
 use mathlib.Core.Bool.{false}
 use denote.Ref.{now}
-use Rattle.refusals.specs.Refusals.{badNodes, badTimes, refuseIf, orElse, flowRefusal}
-use Rattle.refusals.proofs.Accepted.{nodes-fair, times-fair}
+use Rattle.limits.specs.Limits.{badNodes, badTimes}
+use Rattle.refusals.specs.Refusals.{refuseIf, orElse, flowRefusal}
+use Rattle.limits.proofs.Past.{nodes-fair, times-fair}
 use borrow.Author.Needs.{needs}
 use Rattle.refusals.proofs.judge.refuse_flow.Statement.{statement}
 use Rattle.refusals.proofs.judge.refuse_flow.Tie as tie

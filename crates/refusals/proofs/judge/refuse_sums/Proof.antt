@@ -3,8 +3,8 @@ use mathlib.Core.Path.{_≡_, sym, _∙_}
 use Prim.Native.Nat.{_≤_}
 use native.Mathlib.Omega.{arith}
 use denote.Ref.{now}
-use Rattle.time.specs.Hyper.{most}
-use Rattle.time.proofs.HyperPeriod.{above-only}
+use Rattle.hyper.specs.Hyper.{most}
+use Rattle.hyper.proofs.HyperPeriod.{above-only}
 use Rattle.model.specs.Packets.{hyperIn}
 use Rattle.refusals.proofs.Accepted.{sums-hyper, sums-packets, sums-passes}
 use Rattle.model.proofs.Packing.{is-only}

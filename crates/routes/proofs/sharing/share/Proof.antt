@@ -2,14 +2,12 @@
 use borrow.Author.Count.{below-none, below-more}
 use borrow.Author.Tests.{ne-eqb}
 use Rattle.routes.proofs.Common.{Whole, shares-at, has-array, has-none, shares-none}
-use mathlib.Core.Path.{sym, refl}
+use mathlib.Core.Path.{sym, refl, _≡_}
 use native.Mathlib.Omega.{arith}
 use Prim.Native.Nat.{ℕ, _-_, _≤_, _<_}
-use mathlib.Core.Path.{_≡_}
 use mathlib.Core.Bool.{false}
 use lib.ListN.{getD}
 use lib.Dec.{eqb}
-use borrow.Author.Count.{below-more}
 use Rattle.routes.specs.Route.{linksOf}
 use Rattle.routes.specs.Share.{has}
 use borrow.Author.Needs.{needs}

@@ -1,7 +1,7 @@
 -- Each test that passes makes the definition true, and the last decides.
 use mathlib.Core.Path.{refl, sym}
 use borrow.Author.Tests.{lt-ltb, le-ltb}
-use Rattle.refusals.specs.Refusals.{outsideOf}
+use Rattle.limits.specs.Limits.{outsideOf}
 use Rattle.search.specs.Answering.{badSettings}
 use Rattle.search.proofs.entry.bad_settings.Statement.{statement}
 use Rattle.search.proofs.entry.bad_settings.Tie as tie

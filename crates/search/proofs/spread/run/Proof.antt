@@ -1,5 +1,5 @@
 -- `run` makes the key, spreads the paths, and takes the passes over arrays that hold the packets (proofs/Modelling.antt).
-use Rattle.search.proofs.Slack.{modelled-keyed, searched-slack}
+use Rattle.search.proofs.Slack.{modelled-keyed, searched-slack, slacks-long}
 use Rattle.search.proofs.Modelling.{modelled-ready}
 use borrow.Author.Needs.{needs}
 use Rattle.search.proofs.spread.run.Statement.{statement}
@@ -17,10 +17,16 @@ lens-of-requires c κs = search needs
 rounds-requires : tie.Need-rounds-requires
 rounds-requires c κs =
     let s = c .before .before .before .before .before .before .before .before .before .before .before .before .before .before .before .pre in
-    record { ps = s .0; ready = modelled-ready (s .1) (c .before .before .before .before .before .before .before .before .before .before .before .before .links-of .ensures) (c .before .before .before .before .before .before .before .before .before .before .before .lens-of .ensures); count = s .1 .count; keys = c .before .before .before .before .before .before .before .before .before .before .before .before .before .before .slacks .ensures .long }
+    let links = c .before .before .before .before .before .before .before .before .before .before .before .before .links-of .ensures in
+    let lens = c .before .before .before .before .before .before .before .before .before .before .before .lens-of .ensures in
+    record { ps = s .0; ready = modelled-ready (s .1) links lens; count = s .1 .count; keys = rw (c .before .before .before .before .before .before .before .before .before .before .before .before .before .before .slacks .ensures) (slacks-long (s .1)) }
 
 returns : tie.Need-returns
-returns c = λ ps m. searched-slack m (c .before .before .before .before .before .before .before .before .before .before .before .before .before .before .before .slacks .ensures) (c .rounds .ensures ps (modelled-ready m (c .before .before .before .before .before .before .before .before .before .before .before .before .before .links-of .ensures) (c .before .before .before .before .before .before .before .before .before .before .before .before .lens-of .ensures)) (m .count))
+returns c = λ ps m.
+    let e = c .before .before .before .before .before .before .before .before .before .before .before .before .before .before .before .slacks .ensures in
+    let links = c .before .before .before .before .before .before .before .before .before .before .before .before .before .links-of .ensures in
+    let lens = c .before .before .before .before .before .before .before .before .before .before .before .before .lens-of .ensures in
+    searched-slack m (rw (← e) (c .rounds .ensures ps (modelled-ready m links lens) (m .count)))
 
 pub run-spec : {M : Type 1} → statement M
 run-spec =

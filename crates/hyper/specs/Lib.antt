@@ -1,0 +1,3 @@
+-- Divisors and the hyper-period.
+pub mod Divisor
+pub mod Hyper

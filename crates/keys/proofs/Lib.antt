@@ -1,0 +1,2 @@
+-- That the keys are determined.
+pub mod Determined

@@ -1,0 +1,2 @@
+-- The keys of the list.
+pub mod Slack

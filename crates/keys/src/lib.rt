@@ -1,0 +1,4 @@
+// The keys of the list.
+mod keys;
+
+pub use keys::slacks;

@@ -1,0 +1,2 @@
+-- The tests of a model's numbers.
+pub mod Limits

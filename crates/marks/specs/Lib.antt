@@ -1,0 +1,2 @@
+-- The marks of the links of a path.
+pub mod Marks

@@ -1,0 +1,2 @@
+-- The answer read off what the passes leave.
+pub mod Reports
