@@ -62,10 +62,9 @@ fn write_line(line: &mut [u8], len: usize) {
     io::write_all(STDOUT_FILENO, front(line, len));
 }
 
-// Writes the line of an answer and a table.
-pub fn put_answer(answer: Answer, table: &[u32]) {
-    let mut line = [0u8; 32768];
-    let fields = put_fields(&mut line, answer);
-    let len = put_list(&mut line, fields, table);
-    write_line(&mut line, len);
+// Writes the line of an answer and a table, which is put together in a lent buffer.
+pub fn put_answer(line: &mut [u8], answer: Answer, table: &[u32]) {
+    let fields = put_fields(line, answer);
+    let len = put_list(line, fields, table);
+    write_line(line, len);
 }

@@ -61,13 +61,17 @@ fn next_lent(buffer: &mut [u8], stream: Stream, numbers: &mut [u32], table: &mut
 }
 
 // A check: the mesh, the numbers of the flows, the table.
-fn check_call(buffer: &mut [u8], stream: Stream) -> Stream {
+fn check_call(buffer: &mut [u8], line: &mut [u8], stream: Stream) -> Stream {
     let mut numbers = [0u32; 1024];
     let mut table = [0u32; 2048];
     let laid = next_mesh(buffer, stream);
     let lent = next_lent(buffer, laid.stream, &mut numbers, &mut table);
     let places = part(&table, lent.places);
-    put_answer(check(laid.mesh, part(&numbers, lent.flows), places), places);
+    put_answer(
+        line,
+        check(laid.mesh, part(&numbers, lent.flows), places),
+        places,
+    );
     lent.stream
 }
 
@@ -94,9 +98,16 @@ fn next_posed(buffer: &mut [u8], stream: Stream) -> Posed {
     }
 }
 
-// The answer of the search with the first places of a table lent.
-fn searched(posed: Posed, numbers: &[u32], table: &mut [u32], places: usize) -> Answer {
+// The answer of the search of the first numbers, with the first places of a table lent.
+fn searched(
+    posed: Posed,
+    numbers: &[u32],
+    flows: usize,
+    table: &mut [u32],
+    places: usize,
+) -> Answer {
     let mesh = posed.mesh;
+    let numbers = part(numbers, flows);
     if places <= table.len() {
         search(
             mesh,
@@ -111,14 +122,14 @@ fn searched(posed: Posed, numbers: &[u32], table: &mut [u32], places: usize) -> 
 }
 
 // A search: the mesh, F and G, the numbers of the flows, the lent table.
-fn search_call(buffer: &mut [u8], stream: Stream) -> Stream {
+fn search_call(buffer: &mut [u8], line: &mut [u8], stream: Stream) -> Stream {
     let mut numbers = [0u32; 1024];
     let mut table = [0u32; 2048];
     let posed = next_posed(buffer, stream);
     let lent = next_lent(buffer, posed.stream, &mut numbers, &mut table);
-    let flows = part(&numbers, lent.flows);
     put_answer(
-        searched(posed, flows, &mut table, lent.places),
+        line,
+        searched(posed, &numbers, lent.flows, &mut table, lent.places),
         part(&table, lent.places),
     );
     lent.stream
@@ -156,17 +167,17 @@ fn text_call(buffer: &mut [u8], stream: Stream) -> Stream {
 }
 
 // Answers the call whose kind its first letter tells; the stream behind it.
-pub fn answer_call(buffer: &mut [u8], stream: Stream) -> Stream {
+pub fn answer_call(buffer: &mut [u8], line: &mut [u8], stream: Stream) -> Stream {
     let first = next_byte(buffer, stream);
     let letter = first.byte;
     match letter {
         b'c' => {
             let call = after(buffer, first.stream, b"heck ");
-            check_call(buffer, call)
+            check_call(buffer, line, call)
         }
         b's' => {
             let call = after(buffer, first.stream, b"earch ");
-            search_call(buffer, call)
+            search_call(buffer, line, call)
         }
         b't' => {
             let call = after(buffer, first.stream, b"ext ");

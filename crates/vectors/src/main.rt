@@ -13,7 +13,7 @@ use stream::filled;
 const CALLS: u32 = 100000;
 
 // Answers calls up to the end of the input, or to the first that has not the form asked for; the stream behind them.
-fn run(buffer: &mut [u8]) -> Stream {
+fn run(buffer: &mut [u8], line: &mut [u8]) -> Stream {
     let mut stream = Stream {
         at: 0,
         end: 0,
@@ -24,7 +24,7 @@ fn run(buffer: &mut [u8]) -> Stream {
         if ended(stream) {
             return stream;
         }
-        stream = answer_call(buffer, stream);
+        stream = answer_call(buffer, line, stream);
         if !stream.good {
             return stream;
         }
@@ -34,7 +34,8 @@ fn run(buffer: &mut [u8]) -> Stream {
 
 fn main() {
     let mut buffer = io::large_buffer();
-    let stream = run(&mut buffer);
+    let mut line = io::large_buffer();
+    let stream = run(&mut buffer, &mut line);
     if !stream.good {
         io::write_all(STDOUT_FILENO, b"malformed\n");
     }
