@@ -1,15 +1,15 @@
 -- The flows and the packets as the code holds them: arrays of 64 and of 1,024, filled from the front.
 use mathlib.Core.Path.{_≡_}
 use mathlib.Core.List.{List, [], map}
-use Prim.Native.Nat.{ℕ, zero, suc, _+_, _*_, _/_, _^_, _≤_, _<_}
-use lib.ListN.{length, getD, set}
+use Prim.Native.Nat.{ℕ, _+_, _/_, _≤_, _<_}
+use lib.ListN.{length, getD}
 use Rattle.basics.specs.Lists.{tabulate, padded}
 use Rattle.routes.specs.Route.{pathOf, linksOf}
 use Rattle.routes.specs.declared.paths.Path.{Path}
 use Rattle.packet.specs.Packet.{Packet}
 use Rattle.model.specs.Flows.{periodOf, dueOf, flowsIn, linksOfFlow, occupancyIn}
-use Rattle.model.specs.Packets.{hyperIn, packetsOf}
-use Rattle.model.specs.Fair.{Fair}
+use Rattle.model.specs.Packets.{hyperIn, packetsIn, packetsOf}
+use Rattle.model.specs.Fair.{Timed}
 use Rattle.model.specs.declared.flows.Mesh.{Mesh}
 use Rattle.arrays.specs.declared.build.Flows.{Flows}
 use Rattle.arrays.specs.declared.build.Packets.{Packets}
@@ -42,19 +42,6 @@ arraysOf ps = record {
   flow = padded 1024 0 (map (λ (p : Packet). p .flow) ps);
   release = padded 1024 0 (map (λ (p : Packet). p .release) ps);
 }
-
--- the packets with one more
-unfoldable pub withOne : Packets → ℕ → ℕ → Packets
-withOne packets flow release = record {
-  count = packets .count + 1;
-  flow = set (packets .flow) (packets .count) flow;
-  release = set (packets .release) (packets .count) release;
-}
-
--- the packets with n more of one flow, from packet k of it on
-unfoldable pub withTurns : Packets → ℕ → ℕ → ℕ → ℕ → Packets
-withTurns packets flow period k zero = packets
-withTurns packets flow period k (suc n) = withTurns (withOne packets flow (k * period)) flow period (suc k) n
 
 -- the model as the code holds it: the hyper-period, the flows and the packets
 unfoldable pub modelOf : Mesh → List ℕ → Model
@@ -90,13 +77,9 @@ pub record Ready (flows : Flows) (packets : Packets) : Type 0 where
   pub fits : (p : ℕ) → p < packets .count → packetIn flows packets p .release + packetIn flows packets p .occupancy ≤ packetIn flows packets p .deadline
   pub short : (p : ℕ) → p < packets .count → getD (flows .path) (getD (packets .flow) p 0) noPath .len ≤ 32
 
--- what the next flow asks: a model that is not refused, and the flows before it
-pub record Next (flows : Flows) (mesh : Mesh) (numbers : List ℕ) : Type 0 where
-  pub fair : Fair mesh numbers
-  pub below : flows .count < flowsIn numbers
-  pub before : flows ≡ flowsUpTo mesh numbers (flows .count)
-
--- what the packets of one more flow ask: room for them, and releases below 2 ^ 32
-pub record Room (packets : Packets) (period turns : ℕ) : Type 0 where
-  pub room : packets .count + turns ≤ 1024
-  pub small : turns * period < 2 ^ 32
+-- what the packets ask: flows past 6, their hyper-period within its limit, and at most 1,024 packets
+pub record Packable (numbers : List ℕ) (hyper : ℕ) : Type 0 where
+  pub timed : Timed numbers
+  pub hyper-is : hyper ≡ hyperIn numbers
+  pub hyper-high : hyper ≤ 16777216
+  pub packets-high : packetsIn numbers ≤ 1024

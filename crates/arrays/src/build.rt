@@ -7,11 +7,13 @@ use model::occupancy_of;
 use routes::Path;
 use routes::route;
 ghost use mathlib.Core.Path.{_≡_};
-ghost use Prim.Native.Nat.{_+_, _≤_};
-ghost use Rattle.model.specs.Fair.{Fair, Timed};
-ghost use Rattle.arrays.specs.Arrays.{Next, Room, noFlows, flowsUpTo, arraysOf, withTurns, modelOf};
 ghost use mathlib.Core.List.{[]};
-ghost use Rattle.model.specs.Packets.{hyperIn};
+ghost use Prim.Native.Nat.{_≤_};
+ghost use Rattle.model.specs.Flows.{flowsIn};
+ghost use Rattle.model.specs.Packets.{hyperIn, packetsOf};
+ghost use Rattle.model.specs.Fair.{Fair, Timed};
+ghost use Rattle.model.specs.declared.flows.Mesh.{Mesh};
+ghost use Rattle.arrays.specs.Arrays.{Packable, noFlows, flowsUpTo, arraysOf, modelOf};
 
 // The flows: period, deadline, occupancy and path of each of the first count; what follows them is 0.
 pub struct Flows {
@@ -34,39 +36,6 @@ pub struct Model {
     pub hyper: u32,
     pub flows: Flows,
     pub packets: Packets,
-}
-
-// The flows with the next one.
-fn with_flow(flows: Flows, mesh: Mesh, numbers: &[u32]) -> Flows
-    requires { ⌜ Next flows mesh (now numbers) ⌝ }
-    ensures { λ r. ⌜ r ≡ flowsUpTo mesh (now (numbers .entry)) (flows .count + 1) ⌝ }
-{
-    let f = flows.count;
-    let source = number_of(numbers, f, 0) as usize;
-    let target = number_of(numbers, f, 1) as usize;
-    let mut next = flows;
-    next.period[f] = number_of(numbers, f, 2);
-    next.due[f] = number_of(numbers, f, 4);
-    next.occupancy[f] = occupancy_of(mesh, numbers, f);
-    let path = route(mesh.columns as usize, source, target);
-    next.path[f] = path;
-    next.count = f + 1;
-    next
-}
-
-// The packets with those of one more flow: so many, a period apart.
-fn with_turns(packets: Packets, flow: u16, period: u32, turns: u32) -> Packets
-    requires { ⌜ Room packets period turns ⌝ }
-    ensures { λ r. ⌜ r ≡ withTurns packets flow period 0 turns ⌝ }
-{
-    let mut next = packets;
-    for k in 0..turns {
-        let at = next.count;
-        next.flow[at] = flow;
-        next.release[at] = k * period;
-        next.count = at + 1;
-    }
-    next
 }
 
 // The hyper-period of a model that is not refused.
@@ -108,22 +77,54 @@ fn no_packets() -> Packets
     }
 }
 
-// The flows and packets of a model that is not refused, flow after flow.
+// The flows of a model that is not refused, written one after the other.
+fn flows_of(mesh: Mesh, numbers: &[u32]) -> Flows
+    requires { ⌜ Fair mesh (now numbers) ⌝ }
+    ensures { λ r. ⌜ r ≡ flowsUpTo mesh (now (numbers .entry)) (flowsIn (now (numbers .entry))) ⌝ }
+{
+    let mut flows = no_flows();
+    let n = numbers.len() / 5;
+    for f in 0..n {
+        let source = number_of(numbers, f, 0) as usize;
+        let target = number_of(numbers, f, 1) as usize;
+        flows.period[f] = number_of(numbers, f, 2);
+        flows.due[f] = number_of(numbers, f, 4);
+        flows.occupancy[f] = occupancy_of(mesh, numbers, f);
+        let path = route(mesh.columns as usize, source, target);
+        flows.path[f] = path;
+        flows.count = f + 1;
+    }
+    flows
+}
+
+// The packets of a hyper-period, flow after flow, those of a flow a period apart; the mesh has no part in them.
+fn packets_of(numbers: &[u32], hyper: u32) -> Packets
+    requires { ⌜ Packable (now numbers) hyper ⌝ }
+    ensures { λ r. ⌜ ((mesh : Mesh) → r ≡ arraysOf (packetsOf mesh (now (numbers .entry)))) ⌝ }
+{
+    let mut packets = no_packets();
+    let n = numbers.len() / 5;
+    for f in 0..n {
+        let period = number_of(numbers, f, 2);
+        let turns = hyper / period;
+        for k in 0..turns {
+            let at = packets.count;
+            packets.flow[at] = f as u16;
+            packets.release[at] = k * period;
+            packets.count = at + 1;
+        }
+    }
+    packets
+}
+
+// The hyper-period, the flows and the packets of a model that is not refused.
 pub fn model_of(mesh: Mesh, numbers: &[u32]) -> Model
     requires { ⌜ Fair mesh (now numbers) ⌝ }
     ensures { λ r. ⌜ r ≡ modelOf mesh (now (numbers .entry)) ⌝ }
 {
     let hyper = hyper_of(numbers);
-    let mut flows = no_flows();
-    let mut packets = no_packets();
-    let n = numbers.len() / 5;
-    for f in 0..n {
-        let more = with_flow(flows, mesh, numbers);
-        flows = more;
-        let period = number_of(numbers, f, 2);
-        let filled = with_turns(packets, f as u16, period, hyper / period);
-        packets = filled;
-    }
+    let flows = flows_of(mesh, numbers);
+    let packets = packets_of(numbers, hyper);
     Model {
         hyper,
         flows,
