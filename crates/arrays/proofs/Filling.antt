@@ -1,11 +1,11 @@
 -- Arrays filled from the front: the flows by one more flow, the packets by one more packet.
-use mathlib.Core.Path.{_≡_, sym, _∙_, ap, ap₂}
+use mathlib.Core.Path.{_≡_, sym, _∙_, ap}
 use mathlib.Core.List.{List, [], _∷_, _++_, map, map-append}
 use Prim.Native.Nat.{ℕ, _+_, _<_}
 use native.Mathlib.Omega.{arith}
 use lib.ListN.{length, set, length-append, length-map}
 use Rattle.basics.specs.Lists.{tabulate, padded}
-use Rattle.basics.proofs.Lists.{padded-push, padded-tabulate}
+use Rattle.basics.proofs.Lists.{padded-push, padded-next}
 use Rattle.routes.specs.Route.{pathOf}
 use Rattle.routes.specs.declared.paths.Path.{Path}
 use Rattle.packet.specs.Packet.{Packet}
@@ -35,19 +35,10 @@ pub flow-next : (mesh : Mesh) (numbers : List ℕ) (flows : Flows) (f t d o : �
     } ≡ flowsUpTo mesh numbers (f + 1)
 unfolding flowsUpTo filled
 flow-next mesh numbers flows f t d o path h e et ed eo ep =
-    let p₁ : set (flows .period) f t ≡ padded 64 0 (tabulate (periodOf numbers) 0 (f + 1)) =
-    ap₂ (λ (l : List ℕ) (x : ℕ). set l f x) (ap (λ (r : Flows). r .period) e) et ∙ padded-tabulate 64 0 (periodOf numbers) f h
-    in
-    let p₂ : set (flows .due) f d ≡ padded 64 0 (tabulate (dueOf numbers) 0 (f + 1)) =
-    ap₂ (λ (l : List ℕ) (x : ℕ). set l f x) (ap (λ (r : Flows). r .due) e) ed ∙ padded-tabulate 64 0 (dueOf numbers) f h
-    in
-    let p₃ : set (flows .occupancy) f o ≡ padded 64 0 (tabulate (occupancyIn mesh numbers) 0 (f + 1)) =
-    ap₂ (λ (l : List ℕ) (x : ℕ). set l f x) (ap (λ (r : Flows). r .occupancy) e) eo ∙ padded-tabulate 64 0 (occupancyIn mesh numbers) f h
-    in
-    let p₄ : set (flows .path) f path ≡ padded 64 (pathOf []) (tabulate (λ g. pathOf (linksOfFlow mesh numbers g)) 0 (f + 1)) =
-    ap₂ (λ (l : List Path) (x : Path). set l f x) (ap (λ (r : Flows). r .path) e) ep
-    ∙ padded-tabulate 64 (pathOf []) (λ g. pathOf (linksOfFlow mesh numbers g)) f h
-    in
+    let p₁ = padded-next 64 0 (periodOf numbers) f h (ap (λ (r : Flows). r .period) e) et in
+    let p₂ = padded-next 64 0 (dueOf numbers) f h (ap (λ (r : Flows). r .due) e) ed in
+    let p₃ = padded-next 64 0 (occupancyIn mesh numbers) f h (ap (λ (r : Flows). r .occupancy) e) eo in
+    let p₄ = padded-next 64 (pathOf []) (λ g. pathOf (linksOfFlow mesh numbers g)) f h (ap (λ (r : Flows). r .path) e) ep in
     let f₁ = tabulate (periodOf numbers) 0 (f + 1) in
     let f₂ = tabulate (dueOf numbers) 0 (f + 1) in
     let f₃ = tabulate (occupancyIn mesh numbers) 0 (f + 1) in

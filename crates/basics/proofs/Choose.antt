@@ -1,4 +1,5 @@
--- Laws of tests: two at once, and one or the other, each made from and taken apart into the two; and when two tests agree, or one cannot pass.
+-- Laws of tests: two at once, and one or the other, each made from and taken apart into the two; and when two tests agree, or one
+-- cannot pass.
 use mathlib.Core.Path.{_≡_, refl, sym, _∙_}
 use mathlib.Core.Bool.{Bool, true, false, false≢true, true≢false}
 use Rattle.basics.specs.Choose.{both, either}

@@ -1,5 +1,5 @@
 -- Laws of lists given by a rule, and of lists filled up to a length, as an array is that is filled from the front.
-use mathlib.Core.Path.{_≡_, refl, sym, _∙_, ap}
+use mathlib.Core.Path.{_≡_, refl, sym, _∙_, ap, ap₂}
 use mathlib.Core.List.{List, [], _∷_, _++_, append-assoc}
 use Prim.Native.Nat.{ℕ, zero, suc, _+_, _-_, _≤_, _<_}
 use native.Mathlib.Nat.{add-zero, zero-add, add-suc, suc-add, not-suc-le-zero, le-of-suc-le-suc}
@@ -78,11 +78,12 @@ module _ {ℓ} {X : Type ℓ} (n : ℕ) (fill : X) where
       ∙ ap (λ (k : ℕ). (xs ++ (x ∷ [])) ++ replicate (n - k) fill) (sym more)
 
 -- storing the next entry of a rule behind its first ones
-pub padded-tabulate {ℓ} : {X : Type ℓ} (n : ℕ) (fill : X) (f : ℕ → X) (k : ℕ) → k < n
-    → set (padded n fill (tabulate f 0 k)) k (f k) ≡ padded n fill (tabulate f 0 (k + 1))
-padded-tabulate n fill f k h =
+pub padded-next {ℓ} : {X : Type ℓ} (n : ℕ) (fill : X) (f : ℕ → X) (k : ℕ) → k < n → {l : List X} {x : X}
+    → l ≡ padded n fill (tabulate f 0 k) → x ≡ f k → set l k x ≡ padded n fill (tabulate f 0 (k + 1))
+padded-next {X = X} n fill f k h e d =
     let len = tabulate-length f 0 k in
-    ap (λ (i : ℕ). set (padded n fill (tabulate f 0 k)) i (f k)) (sym len)
+    ap₂ (λ (l : List X) (x : X). set l k x) e d
+    ∙ ap (λ (i : ℕ). set (padded n fill (tabulate f 0 k)) i (f k)) (sym len)
     ∙ padded-push n fill (tabulate f 0 k) (f k) (omega arith)
     ∙ ap (λ (i : ℕ). padded n fill (tabulate f 0 k ++ (f i ∷ []))) (sym (zero-add k))
     ∙ ap (padded n fill) (sym (tabulate-snoc f 0 k))

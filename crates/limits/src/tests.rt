@@ -9,7 +9,7 @@ ghost use Rattle.limits.specs.Limits.{outsideOf, badMesh, badList, badNo
 ghost use Rattle.model.specs.Fair.{Listed, Sized};
 
 // Whether a number lies outside a range, both ends of which are in it.
-fn outside(low: u32, high: u32, n: u32) -> bool
+pub fn outside(low: u32, high: u32, n: u32) -> bool
     ensures { λ r. ⌜ r ≡ outsideOf low high n ⌝ }
 {
     n < low || high < n

@@ -1,6 +1,7 @@
 // The search: refusals first, then the passes, then the table and the answer.
 use crate::spread::run;
 use arrays::model_of;
+use limits::outside;
 use model::Answer;
 use model::Mesh;
 use model::Refusal;
@@ -14,16 +15,10 @@ ghost use Rattle.search.specs.Answering.{badSettings, settingsRefusal, a
 fn bad_settings(pruning: u32, threshold: u32) -> bool
     ensures { λ r. ⌜ r ≡ badSettings pruning threshold ⌝ }
 {
-    if pruning < 1 {
+    if outside(1, 65_536, pruning) {
         return true;
     }
-    if 65_536 < pruning {
-        return true;
-    }
-    if threshold < 1 {
-        return true;
-    }
-    16 < threshold
+    outside(1, 16, threshold)
 }
 
 // The refusal of the settings, or none.

@@ -5,7 +5,7 @@ use Prim.Native.Nat.{ℕ, _-_, _≤_, _<_}
 use native.Mathlib.Omega.{arith}
 use lib.ListN.{length, length-set}
 use Rattle.basics.specs.Lists.{tabulate, padded}
-use Rattle.basics.proofs.Lists.{padded-tabulate}
+use Rattle.basics.proofs.Lists.{padded-next}
 use Rattle.keys.specs.Slack.{slackIn, slacksOf}
 use borrow.Author.Needs.{needs}
 use Rattle.keys.proofs.keys.slacks.Statement.{statement}
@@ -73,7 +73,7 @@ loop-again c =
     let few : c .before .loop .p < 1024 = omega (arith, c .before .before .before .before .before .pre .few, c .loop-test .taken) in
     record {
       within = omega (arith, c .loop-test .taken);
-      front = rw (c .before .loop .inv .front) (padded-tabulate 1024 0 (slackIn (model .packets .flow) (model .flows .due) (model .flows .occupancy)) (c .before .loop .p) few);
+      front = padded-next 1024 0 (slackIn (model .packets .flow) (model .flows .due) (model .flows .occupancy)) (c .before .loop .p) few (c .before .loop .inv .front) refl;
       size = simp length-set (c .before .loop .inv .size);
     }
 

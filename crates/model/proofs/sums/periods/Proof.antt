@@ -7,7 +7,7 @@ use lib.ListN.{length, length-set}
 use Rattle.basics.specs.Lists.{tabulate, padded}
 use Rattle.model.specs.Flows.{periodOf, flowsIn}
 use Rattle.model.specs.Packets.{periodsOf}
-use Rattle.basics.proofs.Lists.{padded-tabulate}
+use Rattle.basics.proofs.Lists.{padded-next}
 use borrow.Author.Needs.{needs}
 use Rattle.model.proofs.sums.periods.Statement.{statement}
 use Rattle.model.proofs.sums.periods.Tie as tie
@@ -54,7 +54,7 @@ loop-again c =
     let few : c .before .before .loop .f < 64 = omega (arith, c .before .loop-test .taken, c .before .before .before .before .pre .list .flows-high) in
     record {
       within = search needs;
-      front = rw (c .before .before .loop .inv .front, c .number-of .ensures) (padded-tabulate 64 0 (periodOf numbers) (c .before .before .loop .f) few);
+      front = padded-next 64 0 (periodOf numbers) (c .before .before .loop .f) few (c .before .before .loop .inv .front) (c .number-of .ensures);
       size = simp length-set (c .before .before .loop .inv .size);
     }
 

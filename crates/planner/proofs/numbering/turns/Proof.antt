@@ -1,11 +1,10 @@
 -- `turns` stores one turn behind those before it in each round.
-use lib.ListN.{length-set, length, set}
-use mathlib.Core.Path.{_≡_, _∙_, ap}
-use mathlib.Core.List.{List}
+use lib.ListN.{length-set, length}
+use mathlib.Core.Path.{_≡_, refl, _∙_, ap}
 use Prim.Native.Nat.{ℕ, _-_, _≤_}
 use native.Mathlib.Omega.{arith}
 use Rattle.basics.specs.Lists.{tabulate, padded}
-use Rattle.basics.proofs.Lists.{padded-tabulate}
+use Rattle.basics.proofs.Lists.{padded-next}
 use Rattle.arrays.specs.Arrays.{packetIn}
 use borrow.Author.Needs.{needs}
 use Rattle.planner.proofs.numbering.turns.Statement.{statement}
@@ -67,7 +66,7 @@ loop-again c =
     let p = c .before .before .before .before .loop .p in
     let all = c .before .before .before .before .loop .all in
     let turn : ℕ → ℕ = (λ p. packetIn (c .before .before .before .before .before .args .t1) (c .before .before .before .before .before .args .t2) p .turn) in (
-      ap (λ (l : List ℕ). set l p (turn p)) (c .before .before .before .before .loop .inv .0) ∙ padded-tabulate 1024 0 turn p (omega (arith, c .before .before .before .before .before .pre .ready .few, c .before .before .before .loop-test .taken)),
+      padded-next 1024 0 turn p (omega (arith, c .before .before .before .before .before .pre .ready .few, c .before .before .before .loop-test .taken)) (c .before .before .before .before .loop .inv .0) refl,
       omega (arith, c .before .before .before .loop-test .taken),
       length-set all p (turn p) ∙ c .before .before .before .before .loop .inv .2,
     )
