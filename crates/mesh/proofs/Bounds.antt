@@ -1,22 +1,13 @@
--- Bounds: the table's steps are 0 or 1, coordinates of a small mesh stay small, and so do the numbers made of them.
-use mathlib.Core.Path.{_≡_, refl}
+-- Bounds: coordinates of a small mesh stay small, and so do the numbers made of them.
+use mathlib.Core.Path.{_≡_}
 use mathlib.Core.Bool.{Bool, true, false}
-use Prim.Native.Nat.{ℕ, _+_, _*_, _-_, _≤_, _<_}
+use Prim.Native.Nat.{ℕ, _*_, _-_, _≤_, _<_}
 use native.Mathlib.Nat.{mul-le-mul, mod-lt, div-lt-iff-lt-mul}
 use native.Mathlib.Omega.{arith}
 use lib.Dec.{leb}
-use borrow.Author.Tests.{leb-true}
 use Rattle.basics.specs.Choose.{choose}
-use Rattle.basics.specs.First.{firstFrom, first, some, every}
-use Rattle.basics.proofs.First.{every-at}
 use Rattle.mesh.specs.Node.{placeOf, nodeAt, apart, Inside}
-use Rattle.mesh.specs.Link.{steps, stepOf}
 use Rattle.mesh.specs.declared.nodes.Place.{Place}
-
--- the two positive steps of a kind are at most 1
-pub step-small : (kind : ℕ) → kind < 6 → stepOf kind .east + stepOf kind .south ≤ 1
-unfolding firstFrom first some every steps stepOf
-step-small kind h = leb-true _ 1 (every-at (λ k. leb (stepOf k .east + stepOf k .south) 1) 6 refl kind h)
 
 -- the number of a node's row, times the columns
 pub row-small : (row columns : ℕ) → row < 16 → columns ≤ 16 → row * columns ≤ 240

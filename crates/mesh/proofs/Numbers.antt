@@ -1,7 +1,7 @@
 -- Numbers of nodes and links: each way round, and where a link of a place ends.
 use mathlib.Core.Path.{_≡_, _∙_, ap, ap₂}
-use Prim.Native.Nat.{ℕ, zero, suc, _+_, _-_, _<_}
-use native.Mathlib.Nat.{div-add-mod'}
+use Prim.Native.Nat.{ℕ, zero, suc, _<_}
+use native.Mathlib.Nat.{add-zero, div-add-mod'}
 use native.Mathlib.Omega.{arith}
 use lib.Arith.{digits-div, digits-mod}
 use Rattle.mesh.specs.Node.{placeOf, nodeAt}
@@ -45,12 +45,9 @@ pub end-link : (columns kind : ℕ) (at : Place) → kind < 6 → at .column < c
 end-link columns kind at h k =
     end-number columns (nodeAt columns at) kind h ∙ ap (λ (p : Place). nodeAt columns (endOf kind p)) (place-node columns at k)
 
-unmoved : (x : ℕ) → x + 0 - 0 ≡ x
-unmoved x = omega arith
-
 -- the two local kinds end where they begin
 pub still-end : (kind : ℕ) (at : Place) → kind < 2 → endOf kind at ≡ at
 unfolding steps stepOf endOf
-still-end zero at h = at-place (unmoved (at .column)) (unmoved (at .row))
-still-end (suc zero) at h = at-place (unmoved (at .column)) (unmoved (at .row))
+still-end zero at h = at-place (add-zero (at .column)) (add-zero (at .row))
+still-end (suc zero) at h = at-place (add-zero (at .column)) (add-zero (at .row))
 still-end (suc (suc kind)) at h = absurd (omega arith)

@@ -1,9 +1,11 @@
 -- Links: their numbers, the table of six kinds, where a link ends, and which links exist.
 use mathlib.Core.Bool.{Bool}
 use mathlib.Core.List.{List, [], _∷_}
-use Prim.Native.Nat.{ℕ, _+_, _*_, _-_, _/_, _%_, _≤_, _<_}
-use lib.Dec.{leb, ltb}
+use Prim.Native.Nat.{ℕ, _+_, _*_, _/_, _%_, _≤_, _<_}
+use lib.Dec.{ltb}
+use lib.IntN.{ℤ, pos, negsuc, natAbs, _+ℤ_}
 use lib.ListN.{getD}
+use lib.Signed.{leZ, ltZ, _≤ℤ_}
 use Rattle.basics.specs.Choose.{both}
 use Rattle.mesh.specs.Node.{placeOf, nodeAt}
 use Rattle.mesh.specs.declared.nodes.Place.{Place}
@@ -21,31 +23,44 @@ nodeOf link = link / 6
 unfoldable pub kindOf : ℕ → ℕ
 kindOf link = link % 6
 
--- the step to the same place, to the next and the last column, to the next and the last row
-abbrev pub still : Step
-still = record { east = 0; west = 0; south = 0; north = 0 }
+-- one on
+abbrev pub +1 : ℤ
++1 = pos 1
 
--- the table of six kinds: the column step is east − west, the row step south − north
+-- one back
+abbrev pub -1 : ℤ
+-1 = negsuc 0
+
+-- the step to the same place
+abbrev pub still : Step
+still = record { column = pos 0; row = pos 0 }
+
+-- the table of six kinds: the column step and the row step of each
 unfoldable pub steps : List Step
 steps =
     still
     ∷ still
-    ∷ record { east = 1; west = 0; south = 0; north = 0 }
-    ∷ record { east = 0; west = 1; south = 0; north = 0 }
-    ∷ record { east = 0; west = 0; south = 1; north = 0 }
-    ∷ record { east = 0; west = 0; south = 0; north = 1 }
+    ∷ record { column = +1; row = pos 0 }
+    ∷ record { column = -1; row = pos 0 }
+    ∷ record { column = pos 0; row = +1 }
+    ∷ record { column = pos 0; row = -1 }
     ∷ []
 
 -- the step of a kind
 unfoldable pub stepOf : ℕ → Step
 stepOf kind = getD steps kind still
 
+-- the column to which a step of a kind leads from a place, as an integer
+abbrev pub toColumn : ℕ → Place → ℤ
+toColumn kind at = pos (at .column) +ℤ stepOf kind .column
+
+-- the row to which a step of a kind leads from a place, as an integer
+abbrev pub toRow : ℕ → Place → ℤ
+toRow kind at = pos (at .row) +ℤ stepOf kind .row
+
 -- the place at which a link of a kind ends that begins at a place
 unfoldable pub endOf : ℕ → Place → Place
-endOf kind at = record {
-  column = at .column + stepOf kind .east - stepOf kind .west;
-  row = at .row + stepOf kind .south - stepOf kind .north;
-}
+endOf kind at = record { column = natAbs (toColumn kind at); row = natAbs (toRow kind at) }
 
 -- the node at which a link ends
 unfoldable pub endNode : ℕ → ℕ → ℕ
@@ -54,18 +69,24 @@ endNode columns link = nodeAt columns (endOf (kindOf link) (placeOf columns (nod
 -- a step of a kind from a place stays in the mesh
 unfoldable pub stays : ℕ → ℕ → ℕ → Place → Bool
 stays columns rows kind at =
-    both (both (leb (stepOf kind .west) (at .column)) (leb (stepOf kind .north) (at .row)))
-    (both (ltb (endOf kind at .column) columns) (ltb (endOf kind at .row) rows))
+    both (both (leZ (pos 0) (toColumn kind at)) (ltZ (toColumn kind at) (pos columns)))
+    (both (leZ (pos 0) (toRow kind at)) (ltZ (toRow kind at) (pos rows)))
 
 -- a link exists if its node is in the mesh and it does not leave the mesh
 unfoldable pub exists : ℕ → ℕ → ℕ → Bool
 exists columns rows link =
     both (ltb (nodeOf link) (columns * rows)) (stays columns rows (kindOf link) (placeOf columns (nodeOf link)))
 
--- what finding a link's end asks: a kind, and a place of a small mesh that the step does not leave at 0
+-- what adding a step asks: a column or row of a small mesh, a step of one at most, and a sum that is not below 0
+pub record Movable (x : ℕ) (by : ℤ) : Type 0 where
+  pub small : x < 16
+  pub one : natAbs by ≤ 1
+  pub not-below : pos 0 ≤ℤ (pos x +ℤ by)
+
+-- what finding a link's end asks: a kind, and a place of a small mesh from which the step does not lead below 0
 pub record Inner (kind : ℕ) (at : Place) : Type 0 where
   pub kind-in : kind < 6
   pub column-in : at .column < 16
   pub row-in : at .row < 16
-  pub column-left : stepOf kind .west ≤ at .column
-  pub row-left : stepOf kind .north ≤ at .row
+  pub column-left : pos 0 ≤ℤ toColumn kind at
+  pub row-left : pos 0 ≤ℤ toRow kind at

@@ -2,54 +2,23 @@
 use crate::nodes::Place;
 ghost use mathlib.Core.Path.{_≡_};
 ghost use Prim.Native.Nat.{_<_};
-ghost use Rattle.mesh.specs.Link.{linkOf, stepOf, endOf, Inner};
+ghost use lib.IntN.{pos, natAbs, _+ℤ_};
+ghost use Rattle.mesh.specs.Link.{linkOf, stepOf, endOf, Movable, Inner};
 
-// The step of a kind: the column step is east − west, the row step south − north.
+// The step of a kind: how many columns and how many rows it goes on.
 pub struct Step {
-    pub east: usize,
-    pub west: usize,
-    pub south: usize,
-    pub north: usize,
+    pub column: isize,
+    pub row: isize,
 }
 
 // The table of six kinds: L-n, n-L, to the next column, to the column before, to the next row, to the row before.
 const STEP: [Step; 6] = [
-    Step {
-        east: 0,
-        west: 0,
-        south: 0,
-        north: 0,
-    },
-    Step {
-        east: 0,
-        west: 0,
-        south: 0,
-        north: 0,
-    },
-    Step {
-        east: 1,
-        west: 0,
-        south: 0,
-        north: 0,
-    },
-    Step {
-        east: 0,
-        west: 1,
-        south: 0,
-        north: 0,
-    },
-    Step {
-        east: 0,
-        west: 0,
-        south: 1,
-        north: 0,
-    },
-    Step {
-        east: 0,
-        west: 0,
-        south: 0,
-        north: 1,
-    },
+    Step { column: 0, row: 0 },
+    Step { column: 0, row: 0 },
+    Step { column: 1, row: 0 },
+    Step { column: -1, row: 0 },
+    Step { column: 0, row: 1 },
+    Step { column: 0, row: -1 },
 ];
 
 // A link's number.
@@ -68,6 +37,14 @@ fn step_of(kind: usize) -> Step
     STEP[kind]
 }
 
+// A column or a row with a step added.
+fn moved(x: usize, by: isize) -> usize
+    requires { ⌜ Movable x by ⌝ }
+    ensures { λ r. ⌜ r ≡ natAbs (pos x +ℤ by) ⌝ }
+{
+    (x as isize + by) as usize
+}
+
 // The place at which a link of a kind ends that begins at a place.
 pub fn end_of(kind: usize, at: Place) -> Place
     requires { ⌜ Inner kind at ⌝ }
@@ -75,7 +52,7 @@ pub fn end_of(kind: usize, at: Place) -> Place
 {
     let step = step_of(kind);
     Place {
-        column: at.column + step.east - step.west,
-        row: at.row + step.south - step.north,
+        column: moved(at.column, step.column),
+        row: moved(at.row, step.row),
     }
 }

@@ -15,6 +15,7 @@ use lib.ListN.{length, replicate, length-append}
 use borrow.Author.Tests.{leb-true, leb-false}
 use Rattle.mesh.specs.Node.{nodeAt, apart, Inside}
 use Rattle.mesh.specs.Link.{linkOf, steps, stepOf, endOf}
+use Rattle.mesh.proofs.Steps.{east, west, south, north, end-by, not-below}
 use Rattle.routes.specs.Route.{towards, leg, pathOf}
 use Rattle.routes.specs.Walk.{pushed, walked, Stays}
 use Rattle.mesh.specs.declared.nodes.Place.{Place}
@@ -50,20 +51,23 @@ leg-length columns kind (suc n) at = ap suc (leg-length columns kind n (endOf ki
 
 -- n steps that go no further than the mesh does stay inside
 pub straight : (columns rows kind n : ℕ) (at : Place)
-    → n * stepOf kind .west ≤ at .column → n * stepOf kind .north ≤ at .row
-    → at .column + n * stepOf kind .east < columns → at .row + n * stepOf kind .south < rows
+    → n * west kind ≤ at .column → n * north kind ≤ at .row
+    → at .column + n * east kind < columns → at .row + n * south kind < rows
     → Stays columns rows kind n at
-unfolding endOf
 straight columns rows kind zero at w n e s = record { column-in = omega arith; row-in = omega arith }
 straight columns rows kind (suc n) at w o e s =
     let more : (x : ℕ) → suc n * x ≡ n * x + x = suc-mul n in
-    let west = more (stepOf kind .west) in
-    let north = more (stepOf kind .north) in
-    let east = more (stepOf kind .east) in
-    let south = more (stepOf kind .south) in (
+    let more-west = more (west kind) in
+    let more-north = more (north kind) in
+    let more-east = more (east kind) in
+    let more-south = more (south kind) in
+    let w₁ : west kind ≤ at .column = omega arith in
+    let n₁ : north kind ≤ at .row = omega arith in
+    let column = ap (λ (p : Place). p .column) (end-by kind at w₁ n₁) in
+    let row = ap (λ (p : Place). p .row) (end-by kind at w₁ n₁) in (
       record { column-in = omega arith; row-in = omega arith },
-      omega arith,
-      omega arith,
+      not-below (at .column) (stepOf kind .column) w₁,
+      not-below (at .row) (stepOf kind .row) n₁,
       straight columns rows kind n (endOf kind at) (omega arith) (omega arith) (omega arith) (omega arith),
     )
 

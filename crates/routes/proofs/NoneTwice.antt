@@ -3,12 +3,15 @@ use mathlib.Core.Path.{_≡_, sym, _∙_, ap}
 use mathlib.Core.List.{List, [], _∷_, _++_}
 use Prim.Native.Nat.{ℕ, zero, suc, _+_, _*_, _-_, _≤_, _<_}
 use native.Mathlib.Omega.{arith}
+use lib.IntN.{pos}
+use lib.Signed.{_≤ℤ_}
 use Rattle.basics.proofs.Each.{Each, Lacks, Once, each-append, each-map, once-append}
 use Rattle.mesh.specs.Node.{placeOf, nodeAt, Inside}
-use Rattle.mesh.specs.Link.{linkOf, nodeOf, kindOf, steps, stepOf, endOf}
+use Rattle.mesh.specs.Link.{linkOf, nodeOf, kindOf, steps, stepOf, toColumn, toRow, endOf}
 use Rattle.routes.specs.Route.{leg}
 use Rattle.routes.specs.Walk.{Stays}
 use Rattle.mesh.specs.declared.nodes.Place.{Place}
+use Rattle.mesh.proofs.Steps.{east, west, south, north, end-by, back-within}
 use Rattle.mesh.proofs.Numbers.{node-link, kind-link, place-node}
 use Rattle.routes.proofs.TwoLegs.{Moves, TwoLegs, linksOver}
 
@@ -17,19 +20,27 @@ use Rattle.routes.proofs.TwoLegs.{Moves, TwoLegs, linksOver}
 -- how far on a place is in the direction of a kind, in a mesh of so many columns and rows
 unfoldable on : ℕ → ℕ → ℕ → Place → ℕ
 on columns rows kind at =
-    at .column * stepOf kind .east + (columns - at .column) * stepOf kind .west + (at .row * stepOf kind .south + (rows - at .row) * stepOf kind .north)
+    at .column * east kind + (columns - at .column) * west kind + (at .row * south kind + (rows - at .row) * north kind)
+
+-- a place so far on and so far back from another is one further on
+one-on : (columns rows kind : ℕ) (at : Place) → Moves kind → Inside columns rows at → west kind ≤ at .column → north kind ≤ at .row
+    → on columns rows kind (record { column = at .column + east kind - west kind; row = at .row + south kind - north kind }) ≡ on columns rows kind at + 1
+unfolding on steps stepOf
+one-on columns rows zero at m i w n = absurd (omega (arith, m .from-two))
+one-on columns rows (suc zero) at m i w n = absurd (omega (arith, m .from-two))
+one-on columns rows (suc (suc zero)) at m i w n = omega arith
+one-on columns rows (suc (suc (suc zero))) at m i w n = omega (arith, i .column-in)
+one-on columns rows (suc (suc (suc (suc zero)))) at m i w n = omega arith
+one-on columns rows (suc (suc (suc (suc (suc zero))))) at m i w n = omega (arith, i .row-in)
+one-on columns rows (suc (suc (suc (suc (suc (suc kind)))))) at m i w n = absurd (omega (arith, m .to-five))
 
 -- a step of a kind goes one further on
-steps-on : (columns rows kind : ℕ) (at : Place) → Moves kind → Inside columns rows at → stepOf kind .west ≤ at .column → stepOf kind .north ≤ at .row
+steps-on : (columns rows kind : ℕ) (at : Place) → Moves kind → Inside columns rows at → pos 0 ≤ℤ toColumn kind at → pos 0 ≤ℤ toRow kind at
     → on columns rows kind (endOf kind at) ≡ on columns rows kind at + 1
-unfolding on steps stepOf endOf
-steps-on columns rows zero at m i w n = absurd (omega (arith, m .from-two))
-steps-on columns rows (suc zero) at m i w n = absurd (omega (arith, m .from-two))
-steps-on columns rows (suc (suc zero)) at m i w n = omega arith
-steps-on columns rows (suc (suc (suc zero))) at m i w n = omega (arith, i .column-in)
-steps-on columns rows (suc (suc (suc (suc zero)))) at m i w n = omega arith
-steps-on columns rows (suc (suc (suc (suc (suc zero))))) at m i w n = omega (arith, i .row-in)
-steps-on columns rows (suc (suc (suc (suc (suc (suc kind)))))) at m i w n = absurd (omega (arith, m .to-five))
+steps-on columns rows kind at m i c r =
+    let w = back-within (at .column) (stepOf kind .column) c in
+    let n = back-within (at .row) (stepOf kind .row) r in
+    ap (on columns rows kind) (end-by kind at w n) ∙ one-on columns rows kind at m i w n
 
 -- how far on the place of a link's node is
 unfoldable reached : ℕ → ℕ → ℕ → ℕ → ℕ

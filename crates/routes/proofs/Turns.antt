@@ -15,6 +15,7 @@ pub record Walking (columns kind n : ℕ) (path₀ : Path) (from : Place) (path 
   pub long : path .len ≡ path₀ .len + i
   pub inside : Stays columns 16 kind (n - i) at
 
+-- where a step is left, the next one and those after it are
 left : (n i : ℕ) → i < n → n - i ≡ suc (n - (i + 1))
 left n i h = omega arith
 

@@ -8,15 +8,18 @@ use Prim.Native.Nat.{ℕ, zero, suc, _+_, _*_, _≤_, _<_}
 use native.Mathlib.Nat.{mul-comm}
 use native.Mathlib.Omega.{arith}
 use lib.Arith.{digits-lt}
+use lib.IntN.{pos}
+use lib.Signed.{_≤ℤ_}
 use lib.ListN.{length, length-append}
-use borrow.Author.Tests.{lt-ltb, le-leb}
+use borrow.Author.Tests.{lt-ltb}
 use Rattle.basics.proofs.Each.{Each, each-append}
 use Rattle.mesh.specs.Node.{placeOf, nodeAt, Inside}
-use Rattle.mesh.specs.Link.{linkOf, nodeOf, steps, stepOf, endOf, endNode, stays, exists}
+use Rattle.mesh.specs.Link.{linkOf, nodeOf, steps, stepOf, toColumn, toRow, endOf, endNode, exists}
 use Rattle.routes.specs.Route.{leg, Leads}
 use Rattle.routes.specs.Walk.{Stays}
 use Rattle.mesh.specs.declared.nodes.Place.{Place}
 use Rattle.routes.proofs.Legs.{leg-length}
+use Rattle.mesh.proofs.Steps.{west, north, not-below, inside-stays}
 use Rattle.mesh.proofs.Numbers.{node-link, kind-link, node-place, place-node, end-number, end-link, still-end}
 
 -- where n steps of a kind end
@@ -119,12 +122,12 @@ leads {columns} {rows} {source} {target} legs =
 
 -- a link whose step stays inside exists
 step-exists : (columns rows kind : ℕ) (at : Place) → kind < 6 → Inside columns rows at → Inside columns rows (endOf kind at)
-    → stepOf kind .west ≤ at .column → stepOf kind .north ≤ at .row → exists columns rows (linkOf (nodeAt columns at) kind) ≡ true
-unfolding exists stays nodeAt
+    → pos 0 ≤ℤ toColumn kind at → pos 0 ≤ℤ toRow kind at → exists columns rows (linkOf (nodeAt columns at) kind) ≡ true
+unfolding exists nodeAt
 step-exists columns rows kind at h i j w n =
     let node : nodeOf (linkOf (nodeAt columns at) kind) ≡ nodeAt columns at = node-link (nodeAt columns at) kind h in
     let below : nodeAt columns at < columns * rows = subst (λ (m : ℕ). nodeAt columns at < m) (mul-comm rows columns) (digits-lt (i .row-in) (i .column-in)) in
-    simp (node, kind-link (nodeAt columns at) kind h, place-node columns at (i .column-in), lt-ltb _ _ below, le-leb _ _ w, le-leb _ _ n, lt-ltb _ _ (j .column-in), lt-ltb _ _ (j .row-in))
+    simp (node, kind-link (nodeAt columns at) kind h, place-node columns at (i .column-in), lt-ltb _ _ below, inside-stays columns rows kind at w n j)
 
 -- the place where steps begin that stay inside is inside
 begins-inside : (columns rows kind n : ℕ) (at : Place) → Stays columns rows kind n at → Inside columns rows at
@@ -147,7 +150,8 @@ unfolding ended
 ends-inside columns rows kind zero at s = s
 ends-inside columns rows kind (suc n) at s = ends-inside columns rows kind n (endOf kind at) (s .3)
 
-no-step : (kind : ℕ) → kind < 2 → (stepOf kind .west ≡ 0) × (stepOf kind .north ≡ 0)
+-- the two local kinds do not go back
+no-step : (kind : ℕ) → kind < 2 → (west kind ≡ 0) × (north kind ≡ 0)
 unfolding steps stepOf
 no-step zero h = (refl, refl)
 no-step (suc zero) h = (refl, refl)
@@ -160,7 +164,7 @@ local-exists columns rows node kind h i =
     let none = no-step kind h in
     subst (λ (n : ℕ). exists columns rows (linkOf n kind) ≡ true) (node-place columns node)
     (step-exists columns rows kind at (omega arith) i (subst (Inside columns rows) (sym (still-end kind at h)) i)
-    (omega (arith, none)) (omega (arith, none)))
+    (not-below (at .column) (stepOf kind .column) (omega (arith, none))) (not-below (at .row) (stepOf kind .row) (omega (arith, none))))
 
 -- every link of the path exists
 pub all-exist : {columns rows source target : ℕ} (legs : TwoLegs columns rows source target)

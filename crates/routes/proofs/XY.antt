@@ -17,6 +17,7 @@ use Rattle.mesh.specs.declared.nodes.Place.{Place}
 use Rattle.mesh.proofs.Bounds.{apart-lt}
 use Rattle.routes.proofs.Legs.{either-way, row-stays, column-stays, towards-near}
 use Rattle.mesh.proofs.Numbers.{at-place}
+use Rattle.mesh.proofs.Steps.{east, west, south, north, end-by}
 use Rattle.routes.proofs.TwoLegs.{TwoLegs, ended, linksOver, long, leads, all-exist}
 use Rattle.routes.proofs.NoneTwice.{none-twice}
 
@@ -30,24 +31,24 @@ pub record Nodes (columns rows source target : ℕ) : Type 0 where
 
 -- ---- where a straight leg ends
 
+-- no step of a kind moves nothing
 unmoved : (x a b : ℕ) → x ≡ x + 0 * a - 0 * b
 unmoved x a b = omega (arith, zero-mul a, zero-mul b)
 
 -- n steps of a kind end that many steps on
-ended-at : (kind n : ℕ) (at : Place) → n * stepOf kind .west ≤ at .column → n * stepOf kind .north ≤ at .row
-    → ended kind n at ≡ record {
-      column = at .column + n * stepOf kind .east - n * stepOf kind .west;
-      row = at .row + n * stepOf kind .south - n * stepOf kind .north;
-    }
-unfolding ended endOf
-ended-at kind zero at w o =
-    at-place (unmoved (at .column) (stepOf kind .east) (stepOf kind .west)) (unmoved (at .row) (stepOf kind .south) (stepOf kind .north))
+ended-at : (kind n : ℕ) (at : Place) → n * west kind ≤ at .column → n * north kind ≤ at .row
+    → ended kind n at ≡ record { column = at .column + n * east kind - n * west kind; row = at .row + n * south kind - n * north kind }
+unfolding ended
+ended-at kind zero at w o = at-place (unmoved (at .column) (east kind) (west kind)) (unmoved (at .row) (south kind) (north kind))
 ended-at kind (suc n) at w o =
     let more : (x : ℕ) → suc n * x ≡ n * x + x = suc-mul n in
-    let west = more (stepOf kind .west) in
-    let north = more (stepOf kind .north) in
-    let east = more (stepOf kind .east) in
-    let south = more (stepOf kind .south) in
+    let more-west = more (west kind) in
+    let more-north = more (north kind) in
+    let more-east = more (east kind) in
+    let more-south = more (south kind) in
+    let end = end-by kind at (omega arith) (omega arith) in
+    let column = ap (λ (p : Place). p .column) end in
+    let row = ap (λ (p : Place). p .row) end in
     ended-at kind n (endOf kind at) (omega arith) (omega arith)
     ∙ at-place (omega arith) (omega arith)
 

@@ -1,8 +1,10 @@
 -- What the inner functions of a route do to a path: one more link, and n more of one kind.
 use Prim.Native.Nat.{ℕ, zero, suc, _+_, _<_, _≤_}
+use lib.IntN.{pos}
 use lib.ListN.{set}
+use lib.Signed.{_≤ℤ_}
 use Rattle.mesh.specs.Node.{nodeAt, Inside}
-use Rattle.mesh.specs.Link.{linkOf, stepOf, endOf}
+use Rattle.mesh.specs.Link.{linkOf, toColumn, toRow, endOf}
 use Rattle.mesh.specs.declared.nodes.Place.{Place}
 use Rattle.routes.specs.declared.paths.Path.{Path}
 
@@ -19,7 +21,7 @@ walked path columns kind (suc n) at = walked (pushed path (linkOf (nodeAt column
 abbrev pub Stays : ℕ → ℕ → ℕ → ℕ → Place → Type 0
 Stays columns rows kind zero at = Inside columns rows at
 Stays columns rows kind (suc n) at =
-    Inside columns rows at × (stepOf kind .west ≤ at .column) × (stepOf kind .north ≤ at .row) × Stays columns rows kind n (endOf kind at)
+    Inside columns rows at × (pos 0 ≤ℤ toColumn kind at) × (pos 0 ≤ℤ toRow kind at) × Stays columns rows kind n (endOf kind at)
 
 -- what a walk of n steps asks: a mesh of at most 16 columns and rows, a kind, room in the path, and steps that stay inside
 pub record Walk (path : Path) (columns kind n : ℕ) (from : Place) : Type 0 where

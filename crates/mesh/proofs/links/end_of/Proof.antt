@@ -1,35 +1,55 @@
--- `end_of` adds and takes away what the table says; a step is at most 1, and the place is left by no step below 0.
-use mathlib.Core.Path.{ap}
-use Prim.Native.Nat.{_+_, _-_}
+-- `end_of` moves the column and the row by what the table says, read from the bits of its two steps.
+use mathlib.Core.Path.{_≡_, _∙_, ap}
+use Prim.Native.Nat.{ℕ}
 use native.Mathlib.Omega.{arith}
-use Rattle.mesh.specs.Link.{endOf}
+use lib.IntN.{ℤ, pos, natAbs, _+ℤ_}
+use mir.Syntax.{w64}
+use mir.Val.{toZ, ofZ}
+use Rattle.mesh.specs.Link.{stepOf, endOf, Movable, Inner}
 use Rattle.mesh.specs.declared.links.Step.{Step}
 use Rattle.mesh.specs.declared.nodes.Place.{Place}
-use Rattle.mesh.proofs.Bounds.{step-small}
+use Rattle.mesh.proofs.Numbers.{at-place}
+use Rattle.mesh.proofs.Steps.{step-small, small-read}
 use Rattle.mesh.proofs.links.end_of.Statement.{statement}
 use Rattle.mesh.proofs.links.end_of.Tie as tie
+
+module _ {kind : ℕ} {at : Place} {step : Step} (inner : Inner kind at) (e : step ≡ stepOf kind) where
+  -- the column step that is read is the table's
+  column-read : toZ w64 (ofZ w64 (step .column)) ≡ stepOf kind .column
+  column-read = rw e (small-read (stepOf kind .column) (omega (arith, step-small kind (inner .kind-in))))
+
+  -- the row step that is read is the table's
+  row-read : toZ w64 (ofZ w64 (step .row)) ≡ stepOf kind .row
+  row-read = rw e (small-read (stepOf kind .row) (omega (arith, step-small kind (inner .kind-in))))
+
+  -- it may be added to the column
+  column-movable : Movable (at .column) (toZ w64 (ofZ w64 (step .column)))
+  column-movable =
+      rw column-read (record { small = inner .column-in; one = omega (arith, step-small kind (inner .kind-in)); not-below = inner .column-left })
+
+  -- it may be added to the row
+  row-movable : Movable (at .row) (toZ w64 (ofZ w64 (step .row)))
+  row-movable =
+      rw row-read (record { small = inner .row-in; one = omega (arith, step-small kind (inner .kind-in)); not-below = inner .row-left })
 
 step-of-requires : tie.Need-step-of-requires
 step-of-requires c κs = c .pre .kind-in
 
-add-t4 : tie.Need-add-t4
-add-t4 c = omega (arith, ap (λ (s : Step). s .east) (c .before .before .step-of .ensures), step-small (c .before .before .before .args .kind) (c .before .before .before .pre .kind-in), c .before .before .before .pre)
+moved-requires : tie.Need-moved-requires
+moved-requires c κs = column-movable (c .before .before .pre) (c .before .step-of .ensures)
 
-sub-t5 : tie.Need-sub-t5
-sub-t5 c = omega (arith, ap (λ (s : Step). s .west) (c .before .before .before .step-of .ensures), c .before .before .before .before .pre)
-
-add-t6 : tie.Need-add-t6
-add-t6 c = omega (arith, ap (λ (s : Step). s .south) (c .before .before .before .before .before .step-of .ensures), step-small (c .before .before .before .before .before .before .args .kind) (c .before .before .before .before .before .before .pre .kind-in), c .before .before .before .before .before .before .pre)
-
-sub-t7 : tie.Need-sub-t7
-sub-t7 c = omega (arith, ap (λ (s : Step). s .north) (c .before .before .before .before .before .before .step-of .ensures), c .before .before .before .before .before .before .before .pre)
+moved-requires-2 : tie.Need-moved-requires-2
+moved-requires-2 c κs = row-movable (c .before .before .before .before .pre) (c .before .before .before .step-of .ensures)
 
 returns : tie.Need-returns
 unfolding endOf
 returns c =
-    let at = c .before .before .before .before .before .before .before .args .at in
-    ap {B = Place} (λ (s : Step). record { column = at .column + s .east - s .west; row = at .row + s .south - s .north })
-    (c .before .before .before .before .before .before .step-of .ensures)
+    let inner = c .before .before .before .before .before .pre in
+    let at = c .before .before .before .before .before .args .at in
+    let step = c .before .before .before .before .step-of .ensures in
+    at-place
+    (c .before .before .moved .ensures ∙ ap (λ (z : ℤ). natAbs (pos (at .column) +ℤ z)) (column-read inner step))
+    (c .moved2 .ensures ∙ ap (λ (z : ℤ). natAbs (pos (at .row) +ℤ z)) (row-read inner step))
 
 pub end-of-spec : {M : Type 1} → statement M
-end-of-spec = tie.close (tie.spec step-of-requires add-t4 sub-t5 add-t6 sub-t7 returns)
+end-of-spec = tie.close (tie.spec step-of-requires moved-requires moved-requires-2 returns)
