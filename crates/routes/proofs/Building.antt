@@ -8,7 +8,7 @@ use lib.ListN.{length, length-append}
 use Rattle.mesh.specs.Node.{placeOf, apart, Ends, Inside}
 use Rattle.mesh.specs.Link.{linkOf}
 use Rattle.routes.specs.Route.{towards, leg, alongRow, alongColumn, corner, routeOf, pathOf}
-use Rattle.routes.specs.Walk.{pushed, walked, Walk}
+use Rattle.routes.specs.Growing.{pushed, walked, Walkable}
 use Rattle.mesh.specs.declared.nodes.Place.{Place}
 use Rattle.routes.specs.declared.paths.Path.{Path}
 use Rattle.mesh.proofs.Bounds.{place-inside, apart-inside}
@@ -30,7 +30,7 @@ module _ (columns source target : ℕ) (ends : Ends columns source target) (a b 
 
   -- what the walk along the row asks
   pub row-walk : (p : Path) (l k n : ℕ) → p ≡ pathOf (l ∷ []) → k ≡ towards 2 (a .column) (b .column) → n ≡ apart (a .column) (b .column)
-      → Walk p columns k n a
+      → Walkable p columns k n a
   row-walk p l k n e ek en =
       let far = apart-inside columns a b (ends .few-columns) a-inside b-inside in
       record {
@@ -55,7 +55,7 @@ module _ (columns source target : ℕ) (ends : Ends columns source target) (a b 
 
   -- what the walk along the column asks
   pub column-walk : (p : Path) (l k n : ℕ) → p ≡ pathOf (l ∷ alongRow columns a b) → k ≡ towards 4 (a .row) (b .row) → n ≡ apart (a .row) (b .row)
-      → Walk p columns k n (corner a b)
+      → Walkable p columns k n (corner a b)
   unfolding corner
   column-walk p l k n e ek en =
       let far = apart-inside columns a b (ends .few-columns) a-inside b-inside in

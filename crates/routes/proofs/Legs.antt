@@ -17,7 +17,7 @@ use Rattle.mesh.specs.Node.{nodeAt, apart, Inside}
 use Rattle.mesh.specs.Link.{linkOf, steps, stepOf, endOf}
 use Rattle.mesh.proofs.Steps.{east, west, south, north, end-by, not-below}
 use Rattle.routes.specs.Route.{towards, leg, pathOf}
-use Rattle.routes.specs.Walk.{pushed, walked, Stays}
+use Rattle.routes.specs.Growing.{pushed, walked, Stays}
 use Rattle.mesh.specs.declared.nodes.Place.{Place}
 use Rattle.routes.specs.declared.paths.Path.{Path}
 

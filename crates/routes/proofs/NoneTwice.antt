@@ -9,7 +9,7 @@ use Rattle.basics.proofs.Each.{Each, Lacks, Once, each-append, each-map, once-a
 use Rattle.mesh.specs.Node.{placeOf, nodeAt, Inside}
 use Rattle.mesh.specs.Link.{linkOf, nodeOf, kindOf, steps, stepOf, toColumn, toRow, endOf}
 use Rattle.routes.specs.Route.{leg}
-use Rattle.routes.specs.Walk.{Stays}
+use Rattle.routes.specs.Growing.{Stays}
 use Rattle.mesh.specs.declared.nodes.Place.{Place}
 use Rattle.mesh.proofs.Steps.{east, west, south, north, end-by, back-within}
 use Rattle.mesh.proofs.Numbers.{node-link, kind-link, place-node}

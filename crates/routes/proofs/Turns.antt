@@ -4,7 +4,7 @@ use Prim.Native.Nat.{ℕ, suc, _+_, _-_, _≤_, _<_}
 use native.Mathlib.Omega.{arith}
 use Rattle.mesh.specs.Node.{nodeAt}
 use Rattle.mesh.specs.Link.{linkOf, endOf, Inner}
-use Rattle.routes.specs.Walk.{pushed, walked, Stays}
+use Rattle.routes.specs.Growing.{pushed, walked, Stays}
 use Rattle.mesh.specs.declared.nodes.Place.{Place}
 use Rattle.routes.specs.declared.paths.Path.{Path}
 

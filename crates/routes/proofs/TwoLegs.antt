@@ -16,7 +16,7 @@ use Rattle.basics.proofs.Each.{Each, each-append}
 use Rattle.mesh.specs.Node.{placeOf, nodeAt, Inside}
 use Rattle.mesh.specs.Link.{linkOf, nodeOf, steps, stepOf, toColumn, toRow, endOf, endNode, exists}
 use Rattle.routes.specs.Route.{leg, Leads}
-use Rattle.routes.specs.Walk.{Stays}
+use Rattle.routes.specs.Growing.{Stays}
 use Rattle.mesh.specs.declared.nodes.Place.{Place}
 use Rattle.routes.proofs.Legs.{leg-length}
 use Rattle.mesh.proofs.Steps.{west, north, not-below, inside-stays}

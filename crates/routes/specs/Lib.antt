@@ -1,4 +1,4 @@
--- Routes, and links in common.
+-- Routes, how a path grows, and links in common.
+pub mod Growing
 pub mod Route
 pub mod Share
-pub mod Walk

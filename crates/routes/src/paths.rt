@@ -9,7 +9,7 @@ ghost use mathlib.Core.Path.{_≡_};
 ghost use Prim.Native.Nat.{_<_};
 ghost use Rattle.routes.specs.Route.{towards, pathOf, routeOf};
 ghost use Rattle.mesh.specs.Node.{Ends};
-ghost use Rattle.routes.specs.Walk.{pushed, walked, Walk};
+ghost use Rattle.routes.specs.Growing.{pushed, walked, Walkable};
 
 // The links of a path: the first len of the array; what follows them is 0.
 pub struct Path {
@@ -39,7 +39,7 @@ fn kind_towards(kind: usize, a: usize, b: usize) -> usize
 
 // The path with n more links of one kind, from a place on.
 fn walk(path: Path, columns: usize, kind: usize, n: usize, from: Place) -> Path
-    requires { ⌜ Walk path columns kind n from ⌝ }
+    requires { ⌜ Walkable path columns kind n from ⌝ }
     ensures { λ r. ⌜ r ≡ walked path columns kind n from ⌝ }
 {
     let mut next = path;

@@ -1,6 +1,6 @@
 -- `push` is its definition.
 use mathlib.Core.Path.{refl}
-use Rattle.routes.specs.Walk.{pushed}
+use Rattle.routes.specs.Growing.{pushed}
 use borrow.Author.Needs.{needs}
 use Rattle.routes.proofs.paths.push.Statement.{statement}
 use Rattle.routes.proofs.paths.push.Tie as tie

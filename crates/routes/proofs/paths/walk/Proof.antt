@@ -4,7 +4,7 @@ use native.Mathlib.Omega.{arith}
 use mathlib.Core.Path.{_≡_, ap}
 use Prim.Native.Nat.{ℕ, _-_}
 use native.Mathlib.Nat.{sub-zero}
-use Rattle.routes.specs.Walk.{walked}
+use Rattle.routes.specs.Growing.{walked}
 use Rattle.routes.proofs.Turns.{Walking, next-stays, next-inner, next-walking}
 use borrow.Author.Needs.{needs}
 use Rattle.routes.proofs.paths.walk.Statement.{statement}

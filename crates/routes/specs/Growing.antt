@@ -1,4 +1,4 @@
--- What the inner functions of a route do to a path: one more link, and n more of one kind.
+-- How a path grows: by one link, and by n links of one kind.
 use Prim.Native.Nat.{ℕ, zero, suc, _+_, _<_, _≤_}
 use lib.IntN.{pos}
 use lib.ListN.{set}
@@ -24,7 +24,7 @@ Stays columns rows kind (suc n) at =
     Inside columns rows at × (pos 0 ≤ℤ toColumn kind at) × (pos 0 ≤ℤ toRow kind at) × Stays columns rows kind n (endOf kind at)
 
 -- what a walk of n steps asks: a mesh of at most 16 columns and rows, a kind, room in the path, and steps that stay inside
-pub record Walk (path : Path) (columns kind n : ℕ) (from : Place) : Type 0 where
+pub record Walkable (path : Path) (columns kind n : ℕ) (from : Place) : Type 0 where
   pub few-columns : columns ≤ 16
   pub kind-in : kind < 6
   pub room : path .len + n ≤ 32
