@@ -18,7 +18,6 @@ use Rattle.basics.proofs.First.{every-at}
 use Rattle.mesh.specs.Node.{Inside}
 use Rattle.mesh.specs.Link.{steps, stepOf, toColumn, toRow, endOf, stays}
 use Rattle.mesh.specs.declared.nodes.Place.{Place}
-use Rattle.mesh.proofs.Numbers.{at-place}
 
 -- ---- one step
 
@@ -89,12 +88,15 @@ pub step-small : (kind : ℕ) → kind < 6 → natAbs (stepOf kind .column) + na
 unfolding firstFrom first some every steps stepOf
 step-small kind h = leb-true _ 1 (every-at (λ k. leb (natAbs (stepOf k .column) + natAbs (stepOf k .row)) 1) 6 refl kind h)
 
--- a link that does not lead below 0 ends so far on and so far back
-pub end-by : (kind : ℕ) (at : Place) → west kind ≤ at .column → north kind ≤ at .row
-    → endOf kind at ≡ record { column = at .column + east kind - west kind; row = at .row + south kind - north kind }
+-- a link that goes back no further than column 0 ends so many columns on and back
+pub end-column : (kind : ℕ) (at : Place) → west kind ≤ at .column → endOf kind at .column ≡ at .column + east kind - west kind
 unfolding endOf
-end-by kind at w n =
-    at-place (ap natAbs (step-to (at .column) (stepOf kind .column) w)) (ap natAbs (step-to (at .row) (stepOf kind .row) n))
+end-column kind at h = ap natAbs (step-to (at .column) (stepOf kind .column) h)
+
+-- a link that goes back no further than row 0 ends so many rows on and back
+pub end-row : (kind : ℕ) (at : Place) → north kind ≤ at .row → endOf kind at .row ≡ at .row + south kind - north kind
+unfolding endOf
+end-row kind at h = ap natAbs (step-to (at .row) (stepOf kind .row) h)
 
 -- an integer that is not negative, and as a natural number is below n, passes the tests of both
 in-range : (z : ℤ) (n : ℕ) → pos 0 ≤ℤ z → natAbs z < n → both (leZ (pos 0) z) (ltZ z (pos n)) ≡ true

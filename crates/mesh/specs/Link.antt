@@ -58,7 +58,7 @@ toColumn kind at = pos (at .column) +ℤ stepOf kind .column
 abbrev pub toRow : ℕ → Place → ℤ
 toRow kind at = pos (at .row) +ℤ stepOf kind .row
 
--- the place at which a link of a kind ends that begins at a place
+-- the place at which a link of a kind ends that begins at a place; one whose step leads below 0 does not exist
 unfoldable pub endOf : ℕ → Place → Place
 endOf kind at = record { column = natAbs (toColumn kind at); row = natAbs (toRow kind at) }
 

@@ -15,7 +15,7 @@ use lib.ListN.{length, replicate, length-append}
 use borrow.Author.Tests.{leb-true, leb-false}
 use Rattle.mesh.specs.Node.{nodeAt, apart, Inside}
 use Rattle.mesh.specs.Link.{linkOf, steps, stepOf, endOf}
-use Rattle.mesh.proofs.Steps.{east, west, south, north, end-by, not-below}
+use Rattle.mesh.proofs.Steps.{east, west, south, north, end-column, end-row, not-below}
 use Rattle.routes.specs.Route.{towards, leg, pathOf}
 use Rattle.routes.specs.Growing.{pushed, walked, Stays}
 use Rattle.mesh.specs.declared.nodes.Place.{Place}
@@ -63,8 +63,8 @@ straight columns rows kind (suc n) at w o e s =
     let more-south = more (south kind) in
     let w₁ : west kind ≤ at .column = omega arith in
     let n₁ : north kind ≤ at .row = omega arith in
-    let column = ap (λ (p : Place). p .column) (end-by kind at w₁ n₁) in
-    let row = ap (λ (p : Place). p .row) (end-by kind at w₁ n₁) in (
+    let column = end-column kind at w₁ in
+    let row = end-row kind at n₁ in (
       record { column-in = omega arith; row-in = omega arith },
       not-below (at .column) (stepOf kind .column) w₁,
       not-below (at .row) (stepOf kind .row) n₁,

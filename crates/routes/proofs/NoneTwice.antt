@@ -11,8 +11,8 @@ use Rattle.mesh.specs.Link.{linkOf, nodeOf, kindOf, steps, stepOf, toColumn, to
 use Rattle.routes.specs.Route.{leg}
 use Rattle.routes.specs.Growing.{Stays}
 use Rattle.mesh.specs.declared.nodes.Place.{Place}
-use Rattle.mesh.proofs.Steps.{east, west, south, north, end-by, back-within}
-use Rattle.mesh.proofs.Numbers.{node-link, kind-link, place-node}
+use Rattle.mesh.proofs.Steps.{east, west, south, north, end-column, end-row, back-within}
+use Rattle.mesh.proofs.Numbers.{at-place, node-link, kind-link, place-node}
 use Rattle.routes.proofs.TwoLegs.{Moves, TwoLegs, linksOver}
 
 -- ---- along a leg
@@ -40,7 +40,7 @@ steps-on : (columns rows kind : ℕ) (at : Place) → Moves kind → Inside colu
 steps-on columns rows kind at m i c r =
     let w = back-within (at .column) (stepOf kind .column) c in
     let n = back-within (at .row) (stepOf kind .row) r in
-    ap (on columns rows kind) (end-by kind at w n) ∙ one-on columns rows kind at m i w n
+    ap (on columns rows kind) (at-place (end-column kind at w) (end-row kind at n)) ∙ one-on columns rows kind at m i w n
 
 -- how far on the place of a link's node is
 unfoldable reached : ℕ → ℕ → ℕ → ℕ → ℕ

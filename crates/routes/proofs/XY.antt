@@ -17,7 +17,7 @@ use Rattle.mesh.specs.declared.nodes.Place.{Place}
 use Rattle.mesh.proofs.Bounds.{apart-lt}
 use Rattle.routes.proofs.Legs.{either-way, row-stays, column-stays, towards-near}
 use Rattle.mesh.proofs.Numbers.{at-place}
-use Rattle.mesh.proofs.Steps.{east, west, south, north, end-by}
+use Rattle.mesh.proofs.Steps.{east, west, south, north, end-column, end-row}
 use Rattle.routes.proofs.TwoLegs.{TwoLegs, ended, linksOver, long, leads, all-exist}
 use Rattle.routes.proofs.NoneTwice.{none-twice}
 
@@ -46,9 +46,8 @@ ended-at kind (suc n) at w o =
     let more-north = more (north kind) in
     let more-east = more (east kind) in
     let more-south = more (south kind) in
-    let end = end-by kind at (omega arith) (omega arith) in
-    let column = ap (λ (p : Place). p .column) end in
-    let row = ap (λ (p : Place). p .row) end in
+    let column = end-column kind at (omega arith) in
+    let row = end-row kind at (omega arith) in
     ended-at kind n (endOf kind at) (omega arith) (omega arith)
     ∙ at-place (omega arith) (omega arith)
 
