@@ -89,7 +89,8 @@ fn flows_of(mesh: Mesh, numbers: &[u32]) -> Flows
         let target = number_of(numbers, f, 1) as usize;
         flows.period[f] = number_of(numbers, f, 2);
         flows.due[f] = number_of(numbers, f, 4);
-        flows.occupancy[f] = occupancy_of(mesh, numbers, f);
+        let held = occupancy_of(mesh, numbers, f);
+        flows.occupancy[f] = held.0;
         let path = route(mesh.columns as usize, source, target);
         flows.path[f] = path;
         flows.count = f + 1;

@@ -76,5 +76,6 @@ pub fn too_long(mesh: Mesh, numbers: &[u32], f: usize) -> bool
     requires { ⌜ Sized mesh (now numbers) f ⌝ }
     ensures { λ r. ⌜ r ≡ tooLong mesh (now (numbers .entry)) f ⌝ }
 {
-    number_of(numbers, f, 4) < occupancy_of(mesh, numbers, f)
+    let held = occupancy_of(mesh, numbers, f);
+    number_of(numbers, f, 4) < held.0
 }

@@ -1,7 +1,9 @@
 -- Every public function's answer follows from its arguments: any two results that its contract allows are equal.
 -- `Post` is a contract's `ensures` as a plain claim of the arguments, the result and the arguments at exit.
-use mathlib.Core.Path.{sym, _∙_}
+use mathlib.Core.Path.{sym, _∙_, ap}
+use Prim.Native.Nat.{ℕ}
 use Rattle.basics.proofs.Determined.{Determined}
+use Rattle.time.specs.declared.units.Cycles.{Cycles}
 use Rattle.model.proofs.answers.refused.Reads as refused
 use Rattle.model.proofs.answers.refused.Kinds as refused-kinds
 use Rattle.model.proofs.flows.number_of.Reads as number-of
@@ -23,7 +25,7 @@ number-of-determined κs a x y s t p q = p ∙ sym q
 
 -- the occupancy of a flow
 pub occupancy-of-determined : Determined 1 occupancy-of-kinds.ps occupancy-of-kinds.r occupancy-of.Post
-occupancy-of-determined κs a x y s t p q = p ∙ sym q
+occupancy-of-determined κs a x y s t p q = ap {B = Cycles} (λ (n : ℕ). record { 0 = n }) (p ∙ sym q)
 
 -- the hyper-period, or that it is above the limit
 pub hyper-in-determined : Determined 1 hyper-in-kinds.ps hyper-in-kinds.r hyper-in.Post

@@ -26,18 +26,17 @@ pub fn number_of(numbers: &[u32], f: usize, i: usize) -> u32
 }
 
 // The occupancy of flow f's packets.
-pub fn occupancy_of(mesh: Mesh, numbers: &[u32], f: usize) -> u32
+pub fn occupancy_of(mesh: Mesh, numbers: &[u32], f: usize) -> Cycles
     requires { ⌜ Sized mesh (now numbers) f ⌝ }
-    ensures { λ r. ⌜ r ≡ occupancyIn mesh (now (numbers .entry)) f ⌝ }
+    ensures { λ r. ⌜ r .0 ≡ occupancyIn mesh (now (numbers .entry)) f ⌝ }
 {
     let source = number_of(numbers, f, 0);
     let target = number_of(numbers, f, 1);
     let size = number_of(numbers, f, 3);
     let m = mesh::distance(mesh.columns as usize, source as usize, target as usize);
-    let held = occupancy(
+    occupancy(
         Cycles(mesh.r),
         m as u32,
         flits_of(Bytes(size), Bytes(mesh.flit)),
-    );
-    held.0
+    )
 }

@@ -2,6 +2,7 @@
 use arrays::Flows;
 use arrays::Packets;
 use routes::share;
+use time::Cycles;
 use time::Window;
 use time::overlap;
 ghost use mathlib.Core.Path.{_≡_};
@@ -23,15 +24,15 @@ fn next_meeting(flows: Flows, packets: Packets, table: &[u32], a: usize) -> usiz
     let n = packets.count;
     let f = packets.flow[a] as usize;
     let window = Window {
-        start: table[a],
-        span: flows.occupancy[f],
+        start: Cycles(table[a]),
+        span: Cycles(flows.occupancy[f]),
     };
     let path = flows.path[f];
     for b in a + 1..n {
         let g = packets.flow[b] as usize;
         let other = Window {
-            start: table[b],
-            span: flows.occupancy[g],
+            start: Cycles(table[b]),
+            span: Cycles(flows.occupancy[g]),
         };
         if overlap(window, other) {
             let crossed = flows.path[g];

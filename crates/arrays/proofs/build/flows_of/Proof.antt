@@ -101,7 +101,7 @@ loop-again c =
     record {
       its-flows =
           flow-next mesh numbers (c .before .before .before .before .before .before .before .before .loop .flows) f
-          (c .before .before .before .before .number-of3 .result) (c .before .before .before .number-of4 .result) (c .before .before .occupancy-of .result) (c .route .result)
+          (c .before .before .before .before .number-of3 .result) (c .before .before .before .number-of4 .result) (c .before .before .occupancy-of .result .0) (c .route .result)
           (omega (arith, below, c .before .before .before .before .before .before .before .before .before .before .before .pre .list .flows-high)) (c .before .before .before .before .before .before .before .before .loop .inv .its-flows)
           (c .before .before .before .before .number-of3 .ensures) (c .before .before .before .number-of4 .ensures) (c .before .before .occupancy-of .ensures)
           (c .route .ensures ∙ ap₂ (λ (s t : ℕ). pathOf (routeOf (mesh .columns) s t)) (c .before .before .before .before .before .before .number-of .ensures) (c .before .before .before .before .before .number-of2 .ensures));

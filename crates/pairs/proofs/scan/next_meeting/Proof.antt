@@ -35,11 +35,11 @@ mul-t15 c = search needs
 shared-slice-read-t20 : tie.Need-shared-slice-read-t20 Inv-loop μ-loop
 shared-slice-read-t20 c = omega (arith, c .before .before .before .pre .0 .scan .long, c .before .before .before .pre .1)
 
-mul-t21 : tie.Need-mul-t21 Inv-loop μ-loop
-mul-t21 c = omega (arith, c .before .before .before .pre .0 .scan .ready .flow-in (c .before .before .before .args .a) (c .before .before .before .pre .1))
+mul-t22 : tie.Need-mul-t22 Inv-loop μ-loop
+mul-t22 c = omega (arith, c .before .before .before .pre .0 .scan .ready .flow-in (c .before .before .before .args .a) (c .before .before .before .pre .1))
 
-element-copy-out-t24 : tie.Need-element-copy-out-t24 Inv-loop μ-loop
-element-copy-out-t24 c = c .before .before .before .pre .0 .scan .ready .flow-in (c .before .before .before .args .a) (c .before .before .before .pre .1)
+element-copy-out-t25 : tie.Need-element-copy-out-t25 Inv-loop μ-loop
+element-copy-out-t25 c = c .before .before .before .pre .0 .scan .ready .flow-in (c .before .before .before .args .a) (c .before .before .before .pre .1)
 
 mul-path : tie.Need-mul-path Inv-loop μ-loop
 mul-path c = omega (arith, c .before .before .before .before .pre .0 .scan .ready .flow-in (c .before .before .before .before .args .a) (c .before .before .before .before .pre .1))
@@ -62,17 +62,17 @@ element-copy-out-g c = omega (arith, c .before .before .before .before .before .
 cast-g : tie.Need-cast-g Inv-loop μ-loop
 cast-g c = search needs
 
-mul-t29 : tie.Need-mul-t29 Inv-loop μ-loop
-mul-t29 c = search needs
+mul-t31 : tie.Need-mul-t31 Inv-loop μ-loop
+mul-t31 c = search needs
 
-shared-slice-read-t34 : tie.Need-shared-slice-read-t34 Inv-loop μ-loop
-shared-slice-read-t34 c = omega (arith, c .before .before .before .before .before .before .before .before .before .pre .0 .scan .long, c .before .before .loop-test .taken)
+shared-slice-read-t36 : tie.Need-shared-slice-read-t36 Inv-loop μ-loop
+shared-slice-read-t36 c = omega (arith, c .before .before .before .before .before .before .before .before .before .pre .0 .scan .long, c .before .before .loop-test .taken)
 
-mul-t35 : tie.Need-mul-t35 Inv-loop μ-loop
-mul-t35 c = omega (arith, c .before .before .before .before .before .before .before .before .before .pre .0 .scan .ready .flow-in (c .before .before .before .loop .b) (c .before .before .loop-test .taken))
+mul-t38 : tie.Need-mul-t38 Inv-loop μ-loop
+mul-t38 c = omega (arith, c .before .before .before .before .before .before .before .before .before .pre .0 .scan .ready .flow-in (c .before .before .before .loop .b) (c .before .before .loop-test .taken))
 
-element-copy-out-t38 : tie.Need-element-copy-out-t38 Inv-loop μ-loop
-element-copy-out-t38 c = c .before .before .before .before .before .before .before .before .before .pre .0 .scan .ready .flow-in (c .before .before .before .loop .b) (c .before .before .loop-test .taken)
+element-copy-out-t41 : tie.Need-element-copy-out-t41 Inv-loop μ-loop
+element-copy-out-t41 c = c .before .before .before .before .before .before .before .before .before .pre .0 .scan .ready .flow-in (c .before .before .before .loop .b) (c .before .before .loop-test .taken)
 
 overlap-requires : tie.Need-overlap-requires Inv-loop μ-loop
 unfolding packetIn timeAt
@@ -121,8 +121,8 @@ next-meeting-spec =
     cast-f
     mul-t15
     shared-slice-read-t20
-    mul-t21
-    element-copy-out-t24
+    mul-t22
+    element-copy-out-t25
     mul-path
     element-copy-out-path
     add-b
@@ -130,10 +130,10 @@ next-meeting-spec =
     mul-g
     element-copy-out-g
     cast-g
-    mul-t29
-    shared-slice-read-t34
-    mul-t35
-    element-copy-out-t38
+    mul-t31
+    shared-slice-read-t36
+    mul-t38
+    element-copy-out-t41
     overlap-requires
     mul-crossed
     element-copy-out-crossed
