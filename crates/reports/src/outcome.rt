@@ -1,7 +1,7 @@
 // The table written, and what the answer says of it.
 use model::Answer;
+use packet::NO_TIME;
 use passes::Outcome;
-use settling::NONE;
 ghost use mathlib.Core.Path.{_≡_};
 ghost use mathlib.Core.Bool.{not};
 ghost use mathlib.Core.List.{_++_};
@@ -29,7 +29,7 @@ fn skipped_in(times: &[u32; 1024], n: usize) -> u32
 {
     let mut skipped: u32 = 0;
     for p in 0..n {
-        if times[p] == NONE {
+        if times[p] == NO_TIME {
             skipped += 1;
         }
     }
@@ -42,7 +42,7 @@ fn lowest_in(times: &[u32; 1024], n: usize) -> usize
     ensures { λ r. ⌜ r ≡ first (λ p. not (placed (now (times .entry)) p)) n ⌝ }
 {
     for p in 0..n {
-        if times[p] == NONE {
+        if times[p] == NO_TIME {
             return p;
         }
     }

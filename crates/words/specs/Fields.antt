@@ -3,6 +3,7 @@ use mathlib.Core.List.{List, [], _∷_}
 use Prim.Native.Nat.{ℕ}
 use lib.Dec.{eqb}
 use Rattle.basics.specs.Choose.{choose}
+use Rattle.packet.specs.Table.{none}
 use Rattle.digits.specs.Numbers.{decimal}
 use Rattle.words.specs.Bytes.{bytes, tab, feed}
 
@@ -10,13 +11,9 @@ use Rattle.words.specs.Bytes.{bytes, tab, feed}
 unfoldable pub field : ℕ → List ℕ
 field n = tab ∷ decimal n
 
--- a skipped packet's place in the table
-abbrev pub skippedTime : ℕ
-skippedTime = 4294967295
-
 -- a time, with the word `none` for a skipped packet
 unfoldable pub timeField : ℕ → List ℕ
-timeField time = tab ∷ choose (eqb time skippedTime) (bytes "none") (decimal time)
+timeField time = tab ∷ choose (eqb time none) (bytes "none") (decimal time)
 
 -- each line ends in a line feed
 unfoldable pub ended : List ℕ

@@ -1,6 +1,7 @@
 // Words and numbers written into a line's buffer, from a place on. Each writer answers the place behind what it wrote.
 use crate::words::NONE;
 use crate::words::TAB;
+use packet::NO_TIME;
 ghost use mathlib.Core.List.{[], _∷_};
 ghost use Prim.Native.Nat.{_+_, _≤_};
 ghost use lib.ListN.{length};
@@ -53,7 +54,7 @@ pub fn put_time(out: &mut [u8], at: usize, time: u32) -> usize
     ensures { λ r. ⌜ Put 21 (now (out .entry)) (now (out .exit)) at (timeField time) r ⌝ }
 {
     let next = put_byte(out, at, TAB);
-    if time == 4_294_967_295 {
+    if time == NO_TIME {
         return put_word(out, next, &NONE);
     }
     put_number(out, next, time as u64)

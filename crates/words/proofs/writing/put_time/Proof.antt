@@ -1,9 +1,10 @@
 -- `words::writing::put_time` meets its contract: a tab, and the word or the number as the time says.
 use mathlib.Core.Path.{_≡_, sym}
 use Prim.Native.Nat.{ℕ}
+use Rattle.packet.specs.Table.{none}
 use Rattle.digits.specs.Numbers.{decimal}
 use Rattle.words.specs.Bytes.{bytes, tab}
-use Rattle.words.specs.Fields.{skippedTime, timeField}
+use Rattle.words.specs.Fields.{timeField}
 use mathlib.Core.List.{_∷_}
 use native.Mathlib.Omega.{arith}
 use borrow.Author.Tests.{eq-eqb, ne-eqb}
@@ -13,14 +14,14 @@ use Rattle.words.proofs.writing.put_time.Statement.{statement}
 use Rattle.words.proofs.writing.put_time.Tie as tie
 
 -- a skipped packet's time is the word
-skipped : (time : ℕ) → time ≡ skippedTime → tab ∷ bytes "none" ≡ timeField time
+skipped : (time : ℕ) → time ≡ none → tab ∷ bytes "none" ≡ timeField time
 unfolding timeField
-skipped time e = sym (rw (eq-eqb time skippedTime e))
+skipped time e = sym (rw (eq-eqb time none e))
 
 -- any other is the number
-placed : (time : ℕ) → (time ≡ skippedTime → ⊥) → tab ∷ decimal time ≡ timeField time
+placed : (time : ℕ) → (time ≡ none → ⊥) → tab ∷ decimal time ≡ timeField time
 unfolding timeField
-placed time e = sym (rw (ne-eqb time skippedTime e))
+placed time e = sym (rw (ne-eqb time none e))
 
 put-byte-requires : tie.Need-put-byte-requires
 put-byte-requires c κs = search needs
