@@ -25,7 +25,7 @@ unfoldable pub indexOf : ℕ → List ℕ → ℕ
 indexOf b [] = 0
 indexOf b (x ∷ xs) = elim (eqb x b) [ true ↦ 0 | false ↦ suc (indexOf b xs) ]
 
--- the largest number of a model
+-- the largest number that a field may hold
 abbrev pub largest : ℕ
 largest = 4294967295
 

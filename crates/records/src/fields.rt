@@ -8,6 +8,9 @@ ghost use lib.ListN.{length, drop};
 ghost use Rattle.words.specs.Bytes.{sameBytes};
 ghost use Rattle.records.specs.Records.{indexOf, badRecord, recordOf};
 
+// The largest number that a field may hold.
+pub const LARGEST: u64 = 4_294_967_295;
+
 // A line that is the record of a word, with its numbers, or a bad one.
 pub struct Record {
     pub good: bool,
@@ -70,7 +73,7 @@ pub fn read_record(line: &[u8], word: &[u8], n: usize) -> Record
         }
         let start = end + 1;
         let next = find(line, TAB, start);
-        let Number::Good(value) = read_number(&line[start..next], 10, 4_294_967_295) else {
+        let Number::Good(value) = read_number(&line[start..next], 10, LARGEST) else {
             return bad();
         };
         numbers[i] = value as u32;

@@ -1,6 +1,7 @@
 // A line taken apart, as the record of a word.
 mod fields;
 
+pub use fields::LARGEST;
 pub use fields::Record;
 pub use fields::find;
 pub use fields::read_record;

@@ -1,9 +1,7 @@
 // Calls on standard input, read byte by byte through a lent buffer: words, numbers, lists of numbers and texts.
 use libc::STDIN_FILENO;
+use records::LARGEST;
 ghost use Prim.Native.Nat.{_≤_};
-
-// The greatest number of 32 bits.
-const MOST: u64 = 4294967295;
 
 // Where the input is read: the next byte's place in the buffer, the end of the part that is filled, and whether
 // everything read so far had the form that was asked for.
@@ -165,7 +163,7 @@ pub fn next_number(buffer: &mut [u8], stream: Stream, most: u64) -> Number
 
 // The next number of 32 bits.
 pub fn next_small(buffer: &mut [u8], stream: Stream) -> Small {
-    let number = next_number(buffer, stream, MOST);
+    let number = next_number(buffer, stream, LARGEST);
     let stream = number.stream;
     Small {
         value: number.value as u32,
