@@ -5,8 +5,8 @@ use denote.Ref.{now}
 use denote.Triple.Clauses.{AtExit}
 use borrow.Fn.Kinds.{Dens, resT, endedOf}
 use Rattle.basics.proofs.Determined.{Determined}
-use Rattle.lines.proofs.flows.no_flows.Reads as no-flows
-use Rattle.lines.proofs.flows.no_flows.Kinds as no-flows-kinds
+use Rattle.lines.proofs.flows.no_numbers.Reads as no-numbers
+use Rattle.lines.proofs.flows.no_numbers.Kinds as no-numbers-kinds
 use Rattle.lines.proofs.flows.read_flows.Reads as read-flows
 use Rattle.lines.proofs.flows.read_flows.Kinds as read-flows-kinds
 use Rattle.lines.proofs.taking.read_line.Reads as read-line
@@ -21,9 +21,9 @@ pub read-line-determined : (κs λs : Lfts 2) (a : Dens κs read-line-kinds.ps) 
     → read-line.Post κs a x s → read-line.Post λs b y t → x ≡ y
 read-line-determined κs λs a b x y s t text at word n p q = p ∙ (cc) ∙ sym q
 
--- no flow's numbers
-pub no-flows-determined : Determined 0 no-flows-kinds.ps no-flows-kinds.r no-flows.Post
-no-flows-determined κs a x y s t p q = p ∙ sym q
+-- an array with no numbers
+pub no-numbers-determined : Determined 0 no-numbers-kinds.ps no-numbers-kinds.r no-numbers.Post
+no-numbers-determined κs a x y s t p q = p ∙ sym q
 
 -- the flow lines from a place on, of any two texts that are the same
 pub read-flows-determined : (κs λs : Lfts 1) (a : Dens κs read-flows-kinds.ps) (b : Dens λs read-flows-kinds.ps)

@@ -15,8 +15,8 @@ pub struct Lines {
     pub count: usize,
 }
 
-// No flow's numbers.
-pub fn no_flows() -> [u32; 325]
+// An array with no numbers.
+pub fn no_numbers() -> [u32; 325]
     ensures { λ r. ⌜ r ≡ flowsKept [] ⌝ }
 {
     [0u32; 325]
@@ -44,13 +44,13 @@ pub fn read_flows(text: &[u8], from: usize) -> Lines
 {
     let mut at = from;
     let mut count: usize = 0;
-    let mut numbers = no_flows();
+    let mut numbers = no_numbers();
     while at < text.len() {
         let line = read_line(text, at, &FLOW, 5);
         if !line.good {
             return Lines {
                 bad: (count + 3) as u32,
-                numbers: no_flows(),
+                numbers: no_numbers(),
                 count: 0,
             };
         }

@@ -3,7 +3,7 @@ mod flows;
 mod taking;
 
 pub use flows::Lines;
-pub use flows::no_flows;
+pub use flows::no_numbers;
 pub use flows::read_flows;
 pub use taking::Line;
 pub use taking::read_line;

@@ -1,5 +1,5 @@
 // The text reader: a mesh line, a search line, then flow lines.
-use lines::no_flows;
+use lines::no_numbers;
 use lines::read_flows;
 use lines::read_line;
 use model::Mesh;
@@ -33,7 +33,7 @@ fn malformed(line: u32) -> Input
         r: 0,
         flit: 0,
     };
-    let numbers = no_flows();
+    let numbers = no_numbers();
     Input {
         malformed: true,
         line,

@@ -13,11 +13,11 @@ Inv-loop text from at₀ count₀ numbers₀ t9 at count numbers = Flowing text 
 abbrev μ-loop : tie.MeasureT-loop
 μ-loop text from at₀ count₀ numbers₀ t9 at count numbers = length text - at
 
-no-flows-requires : tie.Need-no-flows-requires Inv-loop μ-loop
-no-flows-requires c κs = search needs
+no-numbers-requires : tie.Need-no-numbers-requires Inv-loop μ-loop
+no-numbers-requires c κs = search needs
 
 loop-holds : tie.Need-loop-holds Inv-loop μ-loop
-loop-holds c = flowing-begins _ _ _ (c .before .before .pre .0) (c .before .before .pre .1) (c .no-flows .ensures)
+loop-holds c = flowing-begins _ _ _ (c .before .before .pre .0) (c .before .before .pre .1) (c .no-numbers .ensures)
 
 slice-aggregate-read-line : tie.Need-slice-aggregate-read-line Inv-loop μ-loop
 slice-aggregate-read-line c = search needs
@@ -31,8 +31,8 @@ add-t14 c = search needs
 cast-t15 : tie.Need-cast-t15 Inv-loop μ-loop
 cast-t15 c = search needs
 
-no-flows-requires-2 : tie.Need-no-flows-requires-2 Inv-loop μ-loop
-no-flows-requires-2 c κs = search needs
+no-numbers-requires-2 : tie.Need-no-numbers-requires-2 Inv-loop μ-loop
+no-numbers-requires-2 c κs = search needs
 
 returns : tie.Need-returns Inv-loop μ-loop
 returns c =
@@ -40,7 +40,7 @@ returns c =
     let at-read-line = at-if1 .before .before in
     let at-loop-test = at-read-line .before .before in
     let at-loop = at-loop-test .before in
-    flowing-bad _ _ _ _ _ (at-loop .loop .inv) (at-loop-test .loop-test .taken) _ (at-read-line .read-line .ensures) (not-true _ (at-if1 .if1 .taken)) _ (c .no-flows2 .ensures)
+    flowing-bad _ _ _ _ _ (at-loop .loop .inv) (at-loop-test .loop-test .taken) _ (at-read-line .read-line .ensures) (not-true _ (at-if1 .if1 .taken)) _ (c .no-numbers2 .ensures)
 
 stored-requires : tie.Need-stored-requires Inv-loop μ-loop
 stored-requires c κs = search needs
@@ -73,13 +73,13 @@ read-flows-spec =
     (tie.spec
     Inv-loop
     μ-loop
-    no-flows-requires
+    no-numbers-requires
     loop-holds
     slice-aggregate-read-line
     read-line-requires
     add-t14
     cast-t15
-    no-flows-requires-2
+    no-numbers-requires-2
     returns
     stored-requires
     add-count
