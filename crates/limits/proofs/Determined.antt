@@ -2,8 +2,8 @@
 -- `Post` is a contract's `ensures` as a plain claim of the arguments, the result and the arguments at exit.
 use mathlib.Core.Path.{sym, _∙_}
 use Rattle.basics.proofs.Determined.{Determined}
-use Rattle.limits.proofs.tests.outside.Reads as outside
-use Rattle.limits.proofs.tests.outside.Kinds as outside-kinds
+use Rattle.limits.proofs.tests.out_of_range.Reads as out-of-range
+use Rattle.limits.proofs.tests.out_of_range.Kinds as out-of-range-kinds
 use Rattle.limits.proofs.tests.bad_mesh.Reads as bad-mesh
 use Rattle.limits.proofs.tests.bad_mesh.Kinds as bad-mesh-kinds
 use Rattle.limits.proofs.tests.bad_list.Reads as bad-list
@@ -16,8 +16,8 @@ use Rattle.limits.proofs.tests.too_long.Reads as too-long
 use Rattle.limits.proofs.tests.too_long.Kinds as too-long-kinds
 
 -- whether a number lies outside a range
-pub outside-determined : Determined 0 outside-kinds.ps outside-kinds.r outside.Post
-outside-determined κs a x y s t p q = p ∙ sym q
+pub out-of-range-determined : Determined 0 out-of-range-kinds.ps out-of-range-kinds.r out-of-range.Post
+out-of-range-determined κs a x y s t p q = p ∙ sym q
 
 -- the test of 2
 pub bad-mesh-determined : Determined 0 bad-mesh-kinds.ps bad-mesh-kinds.r bad-mesh.Post

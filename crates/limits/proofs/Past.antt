@@ -9,21 +9,21 @@ use lib.ListN.{length}
 use borrow.Author.Tests.{ltb-false, le-ltb, leb-false, lt-leb, eqb-true, eqb-false, eq-eqb, ne-eqb, not-false}
 use Rattle.hyper.specs.Hyper.{most}
 use Rattle.model.specs.Flows.{periodOf, sizeOf, dueOf, flowsIn, occupancyIn}
-use Rattle.limits.specs.Limits.{outsideOf, badMesh, badList, badNodes, badTimes, tooLong}
+use Rattle.limits.specs.Limits.{outOfRange, badMesh, badList, badNodes, badTimes, tooLong}
 use Rattle.model.specs.Fair.{FairMesh, FairList, FairNodes, FairTimes}
 use Rattle.model.specs.declared.flows.Mesh.{Mesh}
 use Rattle.basics.proofs.Choose.{neither, none-of}
 
--- ---- `outsideOf`
+-- ---- `outOfRange`
 
 -- a number that is not outside a range is in it
-pub inside : (low high n : ℕ) → outsideOf low high n ≡ false → (low ≤ n) × (n ≤ high)
-unfolding outsideOf
+pub inside : (low high n : ℕ) → outOfRange low high n ≡ false → (low ≤ n) × (n ≤ high)
+unfolding outOfRange
 inside low high n e = let p = neither _ _ e in (ltb-false n low (p .0), ltb-false high n (p .1))
 
 -- a number in a range is not outside it
-pub within : (low high n : ℕ) → low ≤ n → n ≤ high → outsideOf low high n ≡ false
-unfolding outsideOf
+pub within : (low high n : ℕ) → low ≤ n → n ≤ high → outOfRange low high n ≡ false
+unfolding outOfRange
 within low high n p q = none-of _ _ (le-ltb n low p) (le-ltb high n q)
 
 -- ---- 2

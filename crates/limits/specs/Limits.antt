@@ -10,18 +10,18 @@ use Rattle.model.specs.Flows.{sourceOf, targetOf, periodOf, sizeOf, dueOf, flow
 use Rattle.model.specs.declared.flows.Mesh.{Mesh}
 
 -- a number lies outside a range, both ends of which are in it
-unfoldable pub outsideOf : ℕ → ℕ → ℕ → Bool
-outsideOf low high n = either (ltb n low) (ltb high n)
+unfoldable pub outOfRange : ℕ → ℕ → ℕ → Bool
+outOfRange low high n = either (ltb n low) (ltb high n)
 
 -- 2: columns or rows outside 1 to 16; r or flit width outside 1 to 64
 unfoldable pub badMesh : Mesh → Bool
 badMesh mesh =
-    either (outsideOf 1 16 (mesh .columns))
-    (either (outsideOf 1 16 (mesh .rows)) (either (outsideOf 1 64 (mesh .r)) (outsideOf 1 64 (mesh .flit))))
+    either (outOfRange 1 16 (mesh .columns))
+    (either (outOfRange 1 16 (mesh .rows)) (either (outOfRange 1 64 (mesh .r)) (outOfRange 1 64 (mesh .flit))))
 
 -- 4: flows not 1 to 64, or the list of numbers not whole flows
 unfoldable pub badList : List ℕ → Bool
-badList numbers = either (not (eqb (length numbers % 5) 0)) (outsideOf 1 64 (flowsIn numbers))
+badList numbers = either (not (eqb (length numbers % 5) 0)) (outOfRange 1 64 (flowsIn numbers))
 
 -- 5: source or target no node, or the two equal
 unfoldable pub badNodes : Mesh → List ℕ → ℕ → Bool
@@ -32,8 +32,8 @@ badNodes mesh numbers f =
 -- 6: T outside 1 to 16,777,216, size outside 1 to 65,536, D outside 1 to T
 unfoldable pub badTimes : List ℕ → ℕ → Bool
 badTimes numbers f =
-    either (outsideOf 1 most (periodOf numbers f))
-    (either (outsideOf 1 65536 (sizeOf numbers f)) (outsideOf 1 (periodOf numbers f) (dueOf numbers f)))
+    either (outOfRange 1 most (periodOf numbers f))
+    (either (outOfRange 1 65536 (sizeOf numbers f)) (outOfRange 1 (periodOf numbers f) (dueOf numbers f)))
 
 -- 7: occupancy above D
 unfoldable pub tooLong : Mesh → List ℕ → ℕ → Bool

@@ -5,5 +5,5 @@ pub use tests::bad_list;
 pub use tests::bad_mesh;
 pub use tests::bad_nodes;
 pub use tests::bad_times;
-pub use tests::outside;
+pub use tests::out_of_range;
 pub use tests::too_long;

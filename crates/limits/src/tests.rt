@@ -5,12 +5,12 @@ use model::occupancy_of;
 ghost use mathlib.Core.Path.{_≡_};
 ghost use Prim.Native.Nat.{_+_, _*_, _≤_};
 ghost use lib.ListN.{length};
-ghost use Rattle.limits.specs.Limits.{outsideOf, badMesh, badList, badNodes, badTimes, tooLong};
+ghost use Rattle.limits.specs.Limits.{outOfRange, badMesh, badList, badNodes, badTimes, tooLong};
 ghost use Rattle.model.specs.Fair.{Listed, Sized};
 
 // Whether a number lies outside a range, both ends of which are in it.
-pub fn outside(low: u32, high: u32, n: u32) -> bool
-    ensures { λ r. ⌜ r ≡ outsideOf low high n ⌝ }
+pub fn out_of_range(low: u32, high: u32, n: u32) -> bool
+    ensures { λ r. ⌜ r ≡ outOfRange low high n ⌝ }
 {
     n < low || high < n
 }
@@ -19,16 +19,16 @@ pub fn outside(low: u32, high: u32, n: u32) -> bool
 pub fn bad_mesh(mesh: Mesh) -> bool
     ensures { λ r. ⌜ r ≡ badMesh mesh ⌝ }
 {
-    if outside(1, 16, mesh.columns) {
+    if out_of_range(1, 16, mesh.columns) {
         return true;
     }
-    if outside(1, 16, mesh.rows) {
+    if out_of_range(1, 16, mesh.rows) {
         return true;
     }
-    if outside(1, 64, mesh.r) {
+    if out_of_range(1, 64, mesh.r) {
         return true;
     }
-    outside(1, 64, mesh.flit)
+    out_of_range(1, 64, mesh.flit)
 }
 
 // 4: flows not 1 to 64, or the list of numbers not whole flows.
@@ -62,13 +62,13 @@ pub fn bad_times(numbers: &[u32], f: usize) -> bool
     ensures { λ r. ⌜ r ≡ badTimes (now (numbers .entry)) f ⌝ }
 {
     let period = number_of(numbers, f, 2);
-    if outside(1, hyper::MOST, period) {
+    if out_of_range(1, hyper::MOST, period) {
         return true;
     }
-    if outside(1, 65_536, number_of(numbers, f, 3)) {
+    if out_of_range(1, 65_536, number_of(numbers, f, 3)) {
         return true;
     }
-    outside(1, period, number_of(numbers, f, 4))
+    out_of_range(1, period, number_of(numbers, f, 4))
 }
 
 // 7: occupancy above D.

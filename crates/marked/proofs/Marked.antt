@@ -16,7 +16,7 @@ use Rattle.packet.specs.Packet.{mayStart, collide}
 use Rattle.packet.specs.Table.{packetAt, timeAt, outside, meets, meetsHigher, placed}
 use Rattle.model.specs.Flows.{numberOf, sourceOf, targetOf, periodOf, sizeOf, dueOf, flowsIn, linksOfFlow, occupancyIn}
 use Rattle.model.specs.Packets.{periodsOf, hyperIn, turnsIn, packetsIn, packetOf, packetsFrom, packetsOf}
-use Rattle.limits.specs.Limits.{outsideOf, badMesh, badList, badNodes, badTimes, tooLong}
+use Rattle.limits.specs.Limits.{outOfRange, badMesh, badList, badNodes, badTimes, tooLong}
 use Rattle.refusals.specs.Refusals.{badHyper, badPackets, refuseIf, orElse, flowRefusal, badFlow, flowsRefusal, sumsRefusal, refusalOf}
 use Rattle.model.specs.Answers.{refusedBy}
 use Rattle.placing.specs.Placing.{inTheWay, free, timeOf, slotsOf, takenOf, placedBy, placingOf}
@@ -31,5 +31,5 @@ use Rattle.marked.specs.Examples.{Example, occupancyAt, onOneLink, meshA
 
 -- every marked example gives what the document says
 pub marked : map (λ (e : Example). e .gives) examples ≡ map (λ (e : Example). e .says) examples
-unfolding firstFrom first some tabulate sumOf countOf placeOf nodeAt apart distanceOf linkOf steps stepOf endOf towards leg alongRow alongColumn corner routeOf has shares flitsOf occupancyOf turnsOf latestOf overlaps gcdF gcdOf lcmOf lcmWith hyperOf mayStart collide packetAt timeAt outside meets meetsHigher numberOf sourceOf targetOf periodOf sizeOf dueOf flowsIn linksOfFlow occupancyIn periodsOf hyperIn turnsIn packetsIn packetOf packetsFrom packetsOf outsideOf badMesh badList badNodes badTimes tooLong badHyper badPackets refuseIf orElse flowRefusal badFlow flowsRefusal sumsRefusal refusalOf refusedBy placed inTheWay free timeOf slotsOf takenOf placedBy placingOf insert sorted slackOf slackAt raised passFrom passOver passesFrom ceiling searchBy skippedIn lowestSkipped badSettings settingsRefusal badTable searchRefusal numberFor placeFor foundAnswer answerOf tableAfter tooShort checkRefusal collided passedWith firstMeeting verdictOf checkOf occupancyAt onOneLink meshA flowsA inShort inFull examples
+unfolding firstFrom first some tabulate sumOf countOf placeOf nodeAt apart distanceOf linkOf steps stepOf endOf towards leg alongRow alongColumn corner routeOf has shares flitsOf occupancyOf turnsOf latestOf overlaps gcdF gcdOf lcmOf lcmWith hyperOf mayStart collide packetAt timeAt outside meets meetsHigher numberOf sourceOf targetOf periodOf sizeOf dueOf flowsIn linksOfFlow occupancyIn periodsOf hyperIn turnsIn packetsIn packetOf packetsFrom packetsOf outOfRange badMesh badList badNodes badTimes tooLong badHyper badPackets refuseIf orElse flowRefusal badFlow flowsRefusal sumsRefusal refusalOf refusedBy placed inTheWay free timeOf slotsOf takenOf placedBy placingOf insert sorted slackOf slackAt raised passFrom passOver passesFrom ceiling searchBy skippedIn lowestSkipped badSettings settingsRefusal badTable searchRefusal numberFor placeFor foundAnswer answerOf tableAfter tooShort checkRefusal collided passedWith firstMeeting verdictOf checkOf occupancyAt onOneLink meshA flowsA inShort inFull examples
 marked = refl

@@ -14,7 +14,7 @@ use Rattle.basics.specs.Sums.{countOf}
 use Rattle.basics.proofs.First.{first-same}
 use Rattle.packet.specs.Packet.{Packet}
 use Rattle.model.specs.Packets.{hyperIn, packetsIn, packetsOf}
-use Rattle.limits.specs.Limits.{outsideOf}
+use Rattle.limits.specs.Limits.{outOfRange}
 use Rattle.refusals.specs.Refusals.{refuseIf, refusalOf}
 use Rattle.model.specs.Answers.{refusedBy}
 use Rattle.model.specs.Fair.{Fair}
@@ -85,7 +85,7 @@ module _ (mesh : Mesh) (f g : ℕ) (numbers table : List ℕ) where
     pub entry-modelled : Modelled (packetsOf mesh numbers) (modelOf mesh numbers) f g
     unfolding badSettings
     entry-modelled =
-        let both = neither (outsideOf 1 65536 f) (outsideOf 1 16 g) settings in
+        let both = neither (outOfRange 1 65536 f) (outOfRange 1 16 g) settings in
         let step = inside 1 65536 f (both .0) in
         let limit = inside 1 16 g (both .1) in
         fair-modelled mesh numbers entry-fair f g (step .0) (step .1) (limit .0) (limit .1)

@@ -7,7 +7,7 @@ use lib.ListN.{length, drop}
 use Rattle.basics.specs.Choose.{either}
 use Rattle.packet.specs.Packet.{Packet}
 use Rattle.model.specs.Packets.{hyperIn, packetsIn, packetsOf}
-use Rattle.limits.specs.Limits.{outsideOf}
+use Rattle.limits.specs.Limits.{outOfRange}
 use Rattle.refusals.specs.Refusals.{refuseIf, orElse, refusalOf}
 use Rattle.model.specs.Answers.{refusedBy}
 use Rattle.model.specs.declared.flows.Mesh.{Mesh}
@@ -18,7 +18,7 @@ use Rattle.reports.specs.Reports.{numberFor, placeFor}
 
 -- 3: F outside 1 to 65,536 or G outside 1 to 16
 unfoldable pub badSettings : ℕ → ℕ → Bool
-badSettings f g = either (outsideOf 1 65536 f) (outsideOf 1 16 g)
+badSettings f g = either (outOfRange 1 65536 f) (outOfRange 1 16 g)
 
 -- the refusal of the settings
 unfoldable pub settingsRefusal : ℕ → ℕ → Refusal

@@ -1,7 +1,7 @@
 // The search: refusals first, then the passes, then the table and the answer.
 use crate::spread::run;
 use arrays::model_of;
-use limits::outside;
+use limits::out_of_range;
 use model::Answer;
 use model::Mesh;
 use model::Refusal;
@@ -15,10 +15,10 @@ ghost use Rattle.search.specs.Answering.{badSettings, settingsRefusal, a
 fn bad_settings(pruning: u32, threshold: u32) -> bool
     ensures { λ r. ⌜ r ≡ badSettings pruning threshold ⌝ }
 {
-    if outside(1, 65_536, pruning) {
+    if out_of_range(1, 65_536, pruning) {
         return true;
     }
-    outside(1, 16, threshold)
+    out_of_range(1, 16, threshold)
 }
 
 // The refusal of the settings, or none.

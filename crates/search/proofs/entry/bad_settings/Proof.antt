@@ -6,19 +6,19 @@ use borrow.Author.Needs.{needs}
 use Rattle.search.proofs.entry.bad_settings.Statement.{statement}
 use Rattle.search.proofs.entry.bad_settings.Tie as tie
 
-outside-requires : tie.Need-outside-requires
-outside-requires c κs = search needs
+out-of-range-requires : tie.Need-out-of-range-requires
+out-of-range-requires c κs = search needs
 
 returns : tie.Need-returns
 unfolding badSettings
-returns c = sym (first-of _ _ (sym (c .before .outside .ensures) ∙ c .if1 .taken))
+returns c = sym (first-of _ _ (sym (c .before .out-of-range .ensures) ∙ c .if1 .taken))
 
-outside-requires-2 : tie.Need-outside-requires-2
-outside-requires-2 c κs = search needs
+out-of-range-requires-2 : tie.Need-out-of-range-requires-2
+out-of-range-requires-2 c κs = search needs
 
 returns-2 : tie.Need-returns-2
 unfolding badSettings
-returns-2 c = c .outside2 .ensures ∙ sym (rest-of _ _ (sym (c .before .before .outside .ensures) ∙ c .before .if1 .left))
+returns-2 c = c .out-of-range2 .ensures ∙ sym (rest-of _ _ (sym (c .before .before .out-of-range .ensures) ∙ c .before .if1 .left))
 
 pub bad-settings-spec : {M : Type 1} → statement M
-bad-settings-spec = tie.close (tie.spec outside-requires returns outside-requires-2 returns-2)
+bad-settings-spec = tie.close (tie.spec out-of-range-requires returns out-of-range-requires-2 returns-2)
