@@ -1,6 +1,7 @@
 // The flows and the packets of a model that is not refused, as arrays by value.
 use hyper::Hyper;
 use model::Mesh;
+use model::PER_FLOW;
 use model::hyper_in;
 use model::number_of;
 use model::occupancy_of;
@@ -83,7 +84,7 @@ fn flows_of(mesh: Mesh, numbers: &[u32]) -> Flows
     ensures { λ r. ⌜ r ≡ flowsUpTo mesh (now (numbers .entry)) (flowsIn (now (numbers .entry))) ⌝ }
 {
     let mut flows = no_flows();
-    let n = numbers.len() / 5;
+    let n = numbers.len() / PER_FLOW;
     for f in 0..n {
         let source = number_of(numbers, f, 0) as usize;
         let target = number_of(numbers, f, 1) as usize;
@@ -104,7 +105,7 @@ fn packets_of(numbers: &[u32], hyper: u32) -> Packets
     ensures { λ r. ⌜ ((mesh : Mesh) → r ≡ arraysOf (packetsOf mesh (now (numbers .entry)))) ⌝ }
 {
     let mut packets = no_packets();
-    let n = numbers.len() / 5;
+    let n = numbers.len() / PER_FLOW;
     for f in 0..n {
         let period = number_of(numbers, f, 2);
         let turns = hyper / period;

@@ -8,7 +8,7 @@ use native.Mathlib.Omega.{arith}
 use lib.ListN.{length}
 use borrow.Author.Tests.{ltb-false, le-ltb, leb-false, lt-leb, eqb-true, eqb-false, eq-eqb, ne-eqb, not-false}
 use Rattle.hyper.specs.Hyper.{most}
-use Rattle.model.specs.Flows.{periodOf, sizeOf, dueOf, flowsIn, occupancyIn}
+use Rattle.model.specs.Flows.{perFlow, periodOf, sizeOf, dueOf, flowsIn, occupancyIn}
 use Rattle.limits.specs.Limits.{outOfRange, badMesh, badList, badNodes, badTimes, tooLong}
 use Rattle.model.specs.Fair.{FairMesh, FairList, FairNodes, FairTimes}
 use Rattle.model.specs.declared.flows.Mesh.{Mesh}
@@ -65,7 +65,7 @@ pub list-fair : (numbers : List ℕ) → badList numbers ≡ false → FairList 
 unfolding badList flowsIn
 list-fair numbers e =
     let both = neither _ _ e in
-    let rest : length numbers % 5 ≡ 0 = eqb-true _ 0 (not-false _ (both .0)) in
+    let rest : length numbers % perFlow ≡ 0 = eqb-true _ 0 (not-false _ (both .0)) in
     let flows = inside 1 64 (flowsIn numbers) (both .1) in
     record { whole = omega arith; flows-low = flows .0; flows-high = flows .1 }
 
@@ -73,8 +73,8 @@ list-fair numbers e =
 pub list-passes : (numbers : List ℕ) → FairList numbers → badList numbers ≡ false
 unfolding badList flowsIn
 list-passes numbers l =
-    let rest : length numbers % 5 ≡ 0 = omega (arith, l .whole) in
-    none-of _ _ (ap not (eq-eqb (length numbers % 5) 0 rest)) (within 1 64 (flowsIn numbers) (l .flows-low) (l .flows-high))
+    let rest : length numbers % perFlow ≡ 0 = omega (arith, l .whole) in
+    none-of _ _ (ap not (eq-eqb (length numbers % perFlow) 0 rest)) (within 1 64 (flowsIn numbers) (l .flows-low) (l .flows-high))
 
 -- ---- 5, 6 and 7 of flow f
 

@@ -6,7 +6,7 @@ use lib.Dec.{leb, ltb, eqb}
 use lib.ListN.{length}
 use Rattle.basics.specs.Choose.{either}
 use Rattle.hyper.specs.Hyper.{most}
-use Rattle.model.specs.Flows.{sourceOf, targetOf, periodOf, sizeOf, dueOf, flowsIn, occupancyIn}
+use Rattle.model.specs.Flows.{perFlow, sourceOf, targetOf, periodOf, sizeOf, dueOf, flowsIn, occupancyIn}
 use Rattle.model.specs.declared.flows.Mesh.{Mesh}
 
 -- a number lies outside a range, both ends of which are in it
@@ -21,7 +21,7 @@ badMesh mesh =
 
 -- 4: flows not 1 to 64, or the list of numbers not whole flows
 unfoldable pub badList : List ℕ → Bool
-badList numbers = either (not (eqb (length numbers % 5) 0)) (outOfRange 1 64 (flowsIn numbers))
+badList numbers = either (not (eqb (length numbers % perFlow) 0)) (outOfRange 1 64 (flowsIn numbers))
 
 -- 5: source or target no node, or the two equal
 unfoldable pub badNodes : Mesh → List ℕ → ℕ → Bool

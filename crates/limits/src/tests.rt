@@ -1,11 +1,13 @@
 // The tests of refusals 2 and 4 to 7, each a function.
 use model::Mesh;
+use model::PER_FLOW;
 use model::number_of;
 use model::occupancy_of;
 ghost use mathlib.Core.Path.{_≡_};
 ghost use Prim.Native.Nat.{_+_, _*_, _≤_};
 ghost use lib.ListN.{length};
 ghost use Rattle.limits.specs.Limits.{outOfRange, badMesh, badList, badNodes, badTimes, tooLong};
+ghost use Rattle.model.specs.Flows.{perFlow};
 ghost use Rattle.model.specs.Fair.{Listed, Sized};
 
 // Whether a number lies outside a range, both ends of which are in it.
@@ -36,10 +38,10 @@ pub fn bad_list(numbers: &[u32]) -> bool
     ensures { λ r. ⌜ r ≡ badList (now (numbers .entry)) ⌝ }
 {
     let n = numbers.len();
-    if n % 5 != 0 {
+    if n % PER_FLOW != 0 {
         return true;
     }
-    n / 5 < 1 || 64 < n / 5
+    n / PER_FLOW < 1 || 64 < n / PER_FLOW
 }
 
 // 5: source or target no node, or the two equal.
@@ -58,7 +60,7 @@ pub fn bad_nodes(mesh: Mesh, numbers: &[u32], f: usize) -> bool
 
 // 6: T outside 1 to 16,777,216, size outside 1 to 65,536, D outside 1 to T.
 pub fn bad_times(numbers: &[u32], f: usize) -> bool
-    requires { ⌜ 5 * f + 5 ≤ length (now numbers) ⌝ }
+    requires { ⌜ perFlow * f + perFlow ≤ length (now numbers) ⌝ }
     ensures { λ r. ⌜ r ≡ badTimes (now (numbers .entry)) f ⌝ }
 {
     let period = number_of(numbers, f, 2);

@@ -4,7 +4,7 @@ use mathlib.Core.List.{List}
 use Prim.Native.Nat.{ℕ, _+_, _*_, _≤_, _<_}
 use lib.ListN.{length}
 use Rattle.hyper.specs.Hyper.{most}
-use Rattle.model.specs.Flows.{sourceOf, targetOf, periodOf, sizeOf, dueOf, flowsIn, occupancyIn}
+use Rattle.model.specs.Flows.{perFlow, sourceOf, targetOf, periodOf, sizeOf, dueOf, flowsIn, occupancyIn}
 use Rattle.model.specs.Packets.{hyperIn, packetsIn}
 use Rattle.model.specs.declared.flows.Mesh.{Mesh}
 
@@ -21,7 +21,7 @@ pub record FairMesh (mesh : Mesh) : Type 0 where
 
 -- past 4: whole flows, 1 to 64 of them
 pub record FairList (numbers : List ℕ) : Type 0 where
-  pub whole : length numbers ≡ 5 * flowsIn numbers
+  pub whole : length numbers ≡ perFlow * flowsIn numbers
   pub flows-low : 0 < flowsIn numbers
   pub flows-high : flowsIn numbers ≤ 64
 
@@ -44,7 +44,7 @@ pub record FairTimes (numbers : List ℕ) (f : ℕ) : Type 0 where
 pub record Listed (mesh : Mesh) (numbers : List ℕ) (f : ℕ) : Type 0 where
   pub fair-mesh : FairMesh mesh
   pub few : f < 64
-  pub listed : 5 * f + 5 ≤ length numbers
+  pub listed : perFlow * f + perFlow ≤ length numbers
 
 -- what the hyper-period asks: 4 passed, and every flow past 6
 pub record Timed (numbers : List ℕ) : Type 0 where
@@ -56,7 +56,7 @@ pub record Sized (mesh : Mesh) (numbers : List ℕ) (f : ℕ) : Type 0 where
   pub fair-mesh : FairMesh mesh
   pub nodes : FairNodes mesh numbers f
   pub times : FairTimes numbers f
-  pub listed : 5 * f + 5 ≤ length numbers
+  pub listed : perFlow * f + perFlow ≤ length numbers
 
 -- past 7: a flow that passes every test of its own
 pub record FairFlow (mesh : Mesh) (numbers : List ℕ) (f : ℕ) : Type 0 where

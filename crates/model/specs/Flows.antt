@@ -1,4 +1,4 @@
--- Mesh numbers, and flows as one list of numbers, five to a flow.
+-- Mesh numbers, and flows as one list of numbers, so many to a flow.
 use mathlib.Core.List.{List}
 use Prim.Native.Nat.{ℕ, _+_, _*_, _/_}
 use lib.ListN.{length, getD}
@@ -7,9 +7,13 @@ use Rattle.routes.specs.Route.{routeOf}
 use Rattle.time.specs.Units.{flitsOf, occupancyOf}
 use Rattle.model.specs.declared.flows.Mesh.{Mesh}
 
--- a flow is five numbers: number i of flow f
+-- a flow is five numbers
+abbrev pub perFlow : ℕ
+perFlow = 5
+
+-- number i of flow f
 unfoldable pub numberOf : ℕ → List ℕ → ℕ → ℕ
-numberOf i numbers f = getD numbers (5 * f + i) 0
+numberOf i numbers f = getD numbers (perFlow * f + i) 0
 
 -- a flow's source
 unfoldable pub sourceOf : List ℕ → ℕ → ℕ
@@ -33,7 +37,7 @@ dueOf numbers f = numberOf 4 numbers f
 
 -- how many flows the list holds; they are numbered from 0 in the order given
 unfoldable pub flowsIn : List ℕ → ℕ
-flowsIn numbers = length numbers / 5
+flowsIn numbers = length numbers / perFlow
 
 -- the path of flow f's packets
 unfoldable pub linksOfFlow : Mesh → List ℕ → ℕ → List ℕ

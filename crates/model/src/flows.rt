@@ -1,4 +1,4 @@
-// Mesh numbers, and flows as one list of numbers, five to a flow.
+// Mesh numbers, and flows as one list of numbers, so many to a flow.
 use time::Bytes;
 use time::Cycles;
 use time::flits_of;
@@ -6,8 +6,11 @@ use time::occupancy;
 ghost use mathlib.Core.Path.{_≡_};
 ghost use Prim.Native.Nat.{_+_, _*_, _<_};
 ghost use lib.ListN.{length};
-ghost use Rattle.model.specs.Flows.{numberOf, occupancyIn};
+ghost use Rattle.model.specs.Flows.{perFlow, numberOf, occupancyIn};
 ghost use Rattle.model.specs.Fair.{Sized};
+
+// How many numbers a flow has.
+pub const PER_FLOW: usize = 5;
 
 // Columns and rows, r, and the flit width in bytes.
 pub struct Mesh {
@@ -19,10 +22,10 @@ pub struct Mesh {
 
 // Number i of flow f: source, target, period, size, deadline.
 pub fn number_of(numbers: &[u32], f: usize, i: usize) -> u32
-    requires { ⌜ 5 * f + i < length (now numbers) ⌝ }
+    requires { ⌜ perFlow * f + i < length (now numbers) ⌝ }
     ensures { λ r. ⌜ r ≡ numberOf i (now (numbers .entry)) f ⌝ }
 {
-    numbers[5 * f + i]
+    numbers[PER_FLOW * f + i]
 }
 
 // The occupancy of flow f's packets.

@@ -7,6 +7,7 @@ pub use answers::Answer;
 pub use answers::Refusal;
 pub use answers::refused;
 pub use flows::Mesh;
+pub use flows::PER_FLOW;
 pub use flows::number_of;
 pub use flows::occupancy_of;
 pub use sums::hyper_in;

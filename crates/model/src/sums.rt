@@ -1,4 +1,5 @@
 // The hyper-period and the number of packets.
+use crate::flows::PER_FLOW;
 use crate::flows::number_of;
 use hyper::Hyper;
 use hyper::hyper_period;
@@ -15,7 +16,7 @@ fn periods(numbers: &[u32]) -> [u32; 64]
     ensures { λ r. ⌜ r ≡ padded 64 0 (periodsOf (now (numbers .entry))) ⌝ }
 {
     let mut all = [0u32; 64];
-    let n = numbers.len() / 5;
+    let n = numbers.len() / PER_FLOW;
     for f in 0..n {
         all[f] = number_of(numbers, f, 2);
     }
@@ -27,7 +28,7 @@ pub fn hyper_in(numbers: &[u32]) -> Hyper
     requires { ⌜ Timed (now numbers) ⌝ }
     ensures { λ r. ⌜ r ≡ hyperWithin (periodsOf (now (numbers .entry))) ⌝ }
 {
-    let n = numbers.len() / 5;
+    let n = numbers.len() / PER_FLOW;
     let all = periods(numbers);
     hyper_period(&all[..n])
 }
@@ -38,7 +39,7 @@ pub fn packets_in(numbers: &[u32], hyper: u32) -> u32
     ensures { λ r. ⌜ r ≡ packetsIn (now (numbers .entry)) ⌝ }
 {
     let mut sum: u32 = 0;
-    let n = numbers.len() / 5;
+    let n = numbers.len() / PER_FLOW;
     for f in 0..n {
         sum += hyper / number_of(numbers, f, 2);
     }

@@ -6,6 +6,7 @@ use limits::bad_nodes;
 use limits::bad_times;
 use limits::too_long;
 use model::Mesh;
+use model::PER_FLOW;
 use model::Refusal;
 use model::hyper_in;
 use model::packets_in;
@@ -47,7 +48,7 @@ fn refuse_flows(mesh: Mesh, numbers: &[u32]) -> Refusal
     requires { ⌜ FairMesh mesh × FairList (now numbers) ⌝ }
     ensures { λ r. ⌜ r ≡ flowsRefusal mesh (now (numbers .entry)) ⌝ }
 {
-    let n = numbers.len() / 5;
+    let n = numbers.len() / PER_FLOW;
     for f in 0..n {
         let refusal = refuse_flow(mesh, numbers, f);
         if refusal.number != 0 {
