@@ -10,6 +10,7 @@ use lib.Dec.{eqb}
 use lib.ListN.{length, drop, length-append, length-drop}
 use lib.Seq.{drop-length}
 use Rattle.basics.specs.Lists.{padded}
+use Rattle.model.specs.Flows.{perFlow}
 use Rattle.words.specs.Bytes.{bytes}
 use Rattle.records.specs.Records.{splitBy, fieldsOf, isRecord, numbersIn}
 use Rattle.records.proofs.Recording.{record-count}
@@ -22,7 +23,7 @@ use Rattle.lines.proofs.Keeping.{kept-more}
 -- ---- the flow lines by their first bad line
 
 -- every line from the third on is a flow line
-pub flow-kind : (count : ℕ) (line : List ℕ) → goodLine (count + 3) line ≡ isRecord (bytes "flow") 5 line
+pub flow-kind : (count : ℕ) (line : List ℕ) → goodLine (count + 3) line ≡ isRecord (bytes "flow") perFlow line
 unfolding goodLine
 flow-kind count line = rw (ne-eqb (count + 3) 1 (omega arith), ne-eqb (count + 3) 2 (omega arith))
 
@@ -48,13 +49,13 @@ flows-first parts = go (eqb (badLine 3 parts) 0) refl
 
 -- ---- the loop
 
--- so many flows are read, and the numbers of the first 65 are kept; the lines from `at` on decide, and hold the other numbers
+-- so many flows are read, and the numbers of the first of them are kept; the lines from `at` on decide, and hold the other numbers
 pub record Flowing (text : List ℕ) (from at count : ℕ) (numbers : List ℕ) : Type 0 where
   pub within : at ≤ length text
   pub small : length text ≤ 8192
   pub few : count ≤ at
   pub done : List ℕ
-  pub size : length done ≡ 5 * count
+  pub size : length done ≡ perFlow * count
   pub array : numbers ≡ flowsKept done
   pub bad : badLine (count + 3) (partsOf (drop at text)) ≡ badLine 3 (partsOf (drop from text))
   pub values : done ++ allNumbers (partsOf (drop at text)) ≡ allNumbers (partsOf (drop from text))
@@ -101,7 +102,7 @@ module _ (text : List ℕ) (from at count : ℕ) (numbers : List ℕ) (s : Flowi
       ∙ ap (λ (k : ℕ). record { bad = 0; numbers = flowsKept (allNumbers (partsOf (drop from text))); count = k }) lines
       ∙ flows-good (partsOf (drop from text)) (flowing-none h)
 
-  module _ (h : at < length text) (r : Line) (e : r ≡ lineAt (bytes "flow") 5 text at) where
+  module _ (h : at < length text) (r : Line) (e : r ≡ lineAt (bytes "flow") perFlow text at) where
     -- a bad line
     pub flowing-bad : r .good ≡ false → (none : List ℕ) → none ≡ flowsKept []
         → record { bad = count + 3; numbers = none; count = 0 } ≡ flowLines (partsOf (drop from text))
@@ -109,24 +110,24 @@ module _ (text : List ℕ) (from at count : ℕ) (numbers : List ℕ) (s : Flowi
         let some : eqb (length (drop at text)) 0 ≡ false = ne-eqb (length (drop at text)) 0 (omega (arith, length-drop at text)) in
         ap (λ (l : List ℕ). record { bad = count + 3; numbers = l; count = 0 }) z
         ∙ flows-bad (partsOf (drop from text)) (count + 3) (omega arith)
-        (sym (s .bad) ∙ line-bad (bytes "flow") text 5 (count + 3) at (flow-kind count) r e (s .within) (rw some) g)
+        (sym (s .bad) ∙ line-bad (bytes "flow") text perFlow (count + 3) at (flow-kind count) r e (s .within) (rw some) g)
 
     -- the place behind a good line
     flowing-next : r .good ≡ true → r .next ≡ feedFrom text at + 1
     unfolding goodFrom
-    flowing-next g = ap (λ (x : Line). x .next) (line-from (bytes "flow") text 5 at r e g)
+    flowing-next g = ap (λ (x : Line). x .next) (line-from (bytes "flow") text perFlow at r e g)
 
     -- less of the text is left behind it
     pub flowing-less : r .good ≡ true → length text - r .next < length text - at
     unfolding feedFrom
-    flowing-less g = omega (arith, flowing-next g, line-ends (bytes "flow") text 5 at r e g)
+    flowing-less g = omega (arith, flowing-next g, line-ends (bytes "flow") text perFlow at r e g)
 
     -- the numbers of a good line
-    flowing-five : r .good ≡ true → r .numbers ≡ numbersIn (lineFrom text at)
+    flowing-numbers : r .good ≡ true → r .numbers ≡ numbersIn (lineFrom text at)
     unfolding goodFrom padded
-    flowing-five g =
-        ap (λ (x : Line). x .numbers) (line-from (bytes "flow") text 5 at r e g)
-        ∙ rw (record-count (bytes "flow") (lineFrom text at) 5 (line-is (bytes "flow") text 5 at r e g)) (append-nil (numbersIn (lineFrom text at)))
+    flowing-numbers g =
+        ap (λ (x : Line). x .numbers) (line-from (bytes "flow") text perFlow at r e g)
+        ∙ rw (record-count (bytes "flow") (lineFrom text at) perFlow (line-is (bytes "flow") text perFlow at r e g)) (append-nil (numbersIn (lineFrom text at)))
 
     -- a good line
     pub flowing-on : r .good ≡ true → (stored : List ℕ) → stored ≡ storedAt numbers count (r .numbers)
@@ -134,8 +135,8 @@ module _ (text : List ℕ) (from at count : ℕ) (numbers : List ℕ) (s : Flowi
     unfolding allNumbers feedFrom
     flowing-on g stored f =
         let line = lineFrom text at in
-        let five : length (numbersIn line) ≡ 5 = record-count (bytes "flow") line 5 (line-is (bytes "flow") text 5 at r e g) in
-        let ends = line-ends (bytes "flow") text 5 at r e g in
+        let size : length (numbersIn line) ≡ perFlow = record-count (bytes "flow") line perFlow (line-is (bytes "flow") text perFlow at r e g) in
+        let ends = line-ends (bytes "flow") text perFlow at r e g in
         let next = flowing-next g in
         let on : partsOf (drop at text) ≡ line ∷ partsOf (drop (r .next) text) =
         parts-on text at ends ∙ ap (λ (k : ℕ). line ∷ partsOf (drop k text)) (sym next) in
@@ -144,16 +145,16 @@ module _ (text : List ℕ) (from at count : ℕ) (numbers : List ℕ) (s : Flowi
           small = s .small;
           few = omega (arith, next, s .few);
           done = s .done ++ numbersIn line;
-          size = omega (arith, length-append (s .done) (numbersIn line), five, s .size);
+          size = omega (arith, length-append (s .done) (numbersIn line), size, s .size);
           array =
               f
               ∙ ap (λ (l : List ℕ). storedAt l count (r .numbers)) (s .array)
-              ∙ ap (storedAt (flowsKept (s .done)) count) (flowing-five g)
-              ∙ kept-more (s .done) (numbersIn line) count (s .size) five;
+              ∙ ap (storedAt (flowsKept (s .done)) count) (flowing-numbers g)
+              ∙ kept-more (s .done) (numbersIn line) count (s .size) size;
           bad =
               ap (λ (k : ℕ). badLine k (partsOf (drop (r .next) text))) (let k : count + 1 + 3 ≡ suc (count + 3) = omega arith in k)
               ∙ ap (λ (k : ℕ). badLine (suc (count + 3)) (partsOf (drop k text))) next
-              ∙ sym (line-good (bytes "flow") text 5 (count + 3) at (flow-kind count) r e g)
+              ∙ sym (line-good (bytes "flow") text perFlow (count + 3) at (flow-kind count) r e g)
               ∙ s .bad;
           values =
               append-assoc (s .done) (numbersIn line) (allNumbers (partsOf (drop (r .next) text)))

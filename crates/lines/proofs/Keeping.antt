@@ -1,4 +1,4 @@
--- Laws of numbers kept in an array that is filled from the front: five more stored behind those kept.
+-- Laws of numbers kept in an array that is filled from the front: a flow's numbers stored behind those kept.
 use mathlib.Core.Path.{_≡_, refl, sym, _∙_, ap}
 use mathlib.Core.Bool.{Bool, true, false}
 use mathlib.Core.List.{List, _++_}
@@ -10,7 +10,8 @@ use lib.Dec.{ltb}
 use lib.ListN.{length, take, drop, replicate, length-append}
 use lib.Seq.{paste, take-at, take-all, take-length, take-append-le, drop-append-add}
 use Rattle.basics.specs.Lists.{padded}
-use Rattle.lines.specs.Form.{flowsKept}
+use Rattle.model.specs.Flows.{perFlow}
+use Rattle.lines.specs.Form.{mostKept, keptNumbers, flowsKept}
 use Rattle.lines.specs.Steps.{storedAt}
 
 -- fewer of one value
@@ -31,23 +32,23 @@ paste-padded n k xs ys e h =
     ∙ ap (λ (l : List ℕ). xs ++ ys ++ l)
     (drop-append-add xs zeros (length ys) ∙ drop-replicate (length ys) (n - length xs) ∙ ap (λ (j : ℕ). replicate {A = ℕ} j 0) left)
 
--- five more numbers are kept, or not where 65 flows are
-pub kept-more : (done five : List ℕ) (count : ℕ) → length done ≡ 5 * count → length five ≡ 5
-    → storedAt (flowsKept done) count five ≡ flowsKept (done ++ five)
+-- one more flow's numbers are kept, or not where the most flows are kept
+pub kept-more : (done flow : List ℕ) (count : ℕ) → length done ≡ perFlow * count → length flow ≡ perFlow
+    → storedAt (flowsKept done) count flow ≡ flowsKept (done ++ flow)
 unfolding storedAt flowsKept
-kept-more done five count e f = go (ltb count 65) refl
+kept-more done flow count e f = go (ltb count mostKept) refl
   where
-    both-long : length (done ++ five) ≡ 5 * count + 5
-    both-long = length-append done five ∙ ap (λ (k : ℕ). k + length five) e ∙ ap (λ (k : ℕ). 5 * count + k) f
+    both-long : length (done ++ flow) ≡ perFlow * count + perFlow
+    both-long = length-append done flow ∙ ap (λ (k : ℕ). k + length flow) e ∙ ap (λ (k : ℕ). perFlow * count + k) f
 
-    go : (t : Bool) → ltb count 65 ≡ t → storedAt (flowsKept done) count five ≡ flowsKept (done ++ five)
+    go : (t : Bool) → ltb count mostKept ≡ t → storedAt (flowsKept done) count flow ≡ flowsKept (done ++ flow)
     go true t =
-        let h = ltb-true count 65 t in
+        let h = ltb-true count mostKept t in
         rw t
-        (ap (λ (l : List ℕ). paste (padded 325 0 l) (5 * count) five 5) (take-all 325 done (omega arith))
-        ∙ ap (λ (k : ℕ). paste (padded 325 0 done) (5 * count) five k) (sym f)
-        ∙ paste-padded 325 (5 * count) done five e (omega arith)
-        ∙ ap (padded 325 0) (sym (take-all 325 (done ++ five) (omega (arith, both-long)))))
+        (ap (λ (l : List ℕ). paste (padded keptNumbers 0 l) (perFlow * count) flow perFlow) (take-all keptNumbers done (omega arith))
+        ∙ ap (λ (k : ℕ). paste (padded keptNumbers 0 done) (perFlow * count) flow k) (sym f)
+        ∙ paste-padded keptNumbers (perFlow * count) done flow e (omega arith)
+        ∙ ap (padded keptNumbers 0) (sym (take-all keptNumbers (done ++ flow) (omega (arith, both-long)))))
     go false t =
-        let h = ltb-false count 65 t in
-        rw t (ap (padded 325 0) (sym (take-append-le 325 done five (omega arith))))
+        let h = ltb-false count mostKept t in
+        rw t (ap (padded keptNumbers 0) (sym (take-append-le keptNumbers done flow (omega arith))))

@@ -13,7 +13,7 @@ use Rattle.basics.specs.Choose.{both}
 use Rattle.basics.specs.Lists.{padded}
 use Rattle.basics.proofs.Choose.{both-not, both-first, both-second}
 use Rattle.words.specs.Bytes.{feed}
-use Rattle.records.specs.Records.{indexOf, isRecord, numbersIn, goodRecord, badRecord, recordOf}
+use Rattle.records.specs.Records.{indexOf, isRecord, numbersIn, mostNumbers, goodRecord, badRecord, recordOf}
 use Rattle.records.specs.declared.fields.Record.{Record}
 use Rattle.records.proofs.Places.{index-le, behind, split-at-first, behind-at, behind-end}
 use Rattle.lines.specs.Form.{goodLine, badLine, partsOf}
@@ -32,7 +32,7 @@ record-good word line n = go (isRecord word n line) refl
     go false e = rw e
 
 -- a good one has the line's numbers
-record-numbers : (word line : List ℕ) (n : ℕ) → isRecord word n line ≡ true → (recordOf word n line) .numbers ≡ padded 5 0 (numbersIn line)
+record-numbers : (word line : List ℕ) (n : ℕ) → isRecord word n line ≡ true → (recordOf word n line) .numbers ≡ padded mostNumbers 0 (numbersIn line)
 unfolding recordOf goodRecord
 record-numbers word line n e = rw e
 
@@ -67,7 +67,7 @@ module _ (word text : List ℕ) (n at end : ℕ) (e : end ≡ at + indexOf feed 
     unfolding lineAt goodFrom feedFrom
     line-right h g =
         let good = sym is-record ∙ g in
-        let numbers : r .numbers ≡ padded 5 0 (numbersIn (lineFrom text at)) =
+        let numbers : r .numbers ≡ padded mostNumbers 0 (numbersIn (lineFrom text at)) =
         ap (λ (x : Record). x .numbers) f
         ∙ ap (λ (l : List ℕ). (recordOf word n l) .numbers) line-slice
         ∙ record-numbers word (lineFrom text at) n good in

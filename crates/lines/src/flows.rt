@@ -1,5 +1,7 @@
 // The flow lines, with the numbers that are kept of them.
 use crate::taking::read_line;
+use model::PER_FLOW;
+use records::MOST_NUMBERS;
 use words::FLOW;
 ghost use mathlib.Core.Path.{_≡_};
 ghost use mathlib.Core.List.{[]};
@@ -8,31 +10,41 @@ ghost use lib.ListN.{length, drop};
 ghost use Rattle.lines.specs.Form.{partsOf, flowsKept};
 ghost use Rattle.lines.specs.Steps.{storedAt, flowLines};
 
+// The most flows whose numbers are kept: 65 are enough to be refused.
+pub const MOST_KEPT: usize = 65;
+
+// How many numbers they have.
+pub const KEPT_NUMBERS: usize = PER_FLOW * MOST_KEPT;
+
 // The flow lines: the first bad line, or 0 with their numbers and their count.
 pub struct Lines {
     pub bad: u32,
-    pub numbers: [u32; 325],
+    pub numbers: [u32; KEPT_NUMBERS],
     pub count: usize,
 }
 
 // An array with no numbers.
-pub fn no_numbers() -> [u32; 325]
+pub fn no_numbers() -> [u32; KEPT_NUMBERS]
     ensures { λ r. ⌜ r ≡ flowsKept [] ⌝ }
 {
-    [0u32; 325]
+    [0u32; KEPT_NUMBERS]
 }
 
-// The numbers with a flow's five in their place; a flow past the 65th is not kept.
-fn stored(numbers: [u32; 325], count: usize, five: [u32; 5]) -> [u32; 325]
-    ensures { λ r. ⌜ r ≡ storedAt numbers count five ⌝ }
+// The numbers with a flow's own in their place; a flow past the most that are kept leaves them.
+fn stored(
+    numbers: [u32; KEPT_NUMBERS],
+    count: usize,
+    flow: [u32; MOST_NUMBERS],
+) -> [u32; KEPT_NUMBERS]
+    ensures { λ r. ⌜ r ≡ storedAt numbers count flow ⌝ }
 {
-    if 65 <= count {
+    if MOST_KEPT <= count {
         return numbers;
     }
     let mut next = numbers;
-    let at = 5 * count;
-    for j in 0..5usize {
-        next[at + j] = five[j];
+    let at = PER_FLOW * count;
+    for j in 0..PER_FLOW {
+        next[at + j] = flow[j];
     }
     next
 }
@@ -46,7 +58,7 @@ pub fn read_flows(text: &[u8], from: usize) -> Lines
     let mut count: usize = 0;
     let mut numbers = no_numbers();
     while at < text.len() {
-        let line = read_line(text, at, &FLOW, 5);
+        let line = read_line(text, at, &FLOW, PER_FLOW);
         if !line.good {
             return Lines {
                 bad: (count + 3) as u32,
@@ -54,8 +66,8 @@ pub fn read_flows(text: &[u8], from: usize) -> Lines
                 count: 0,
             };
         }
-        let five = line.numbers;
-        let next = stored(numbers, count, five);
+        let flow = line.numbers;
+        let next = stored(numbers, count, flow);
         numbers = next;
         count += 1;
         at = line.next;

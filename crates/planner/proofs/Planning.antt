@@ -4,9 +4,11 @@ use mathlib.Core.Bool.{true, false}
 use mathlib.Core.List.{List, []}
 use Prim.Native.Nat.{ℕ, _*_, min}
 use lib.ListN.{take}
+use Rattle.model.specs.Flows.{perFlow}
 use Rattle.model.specs.Answers.{refusedBy}
 use Rattle.model.specs.declared.answers.Answer.{Answer}
 use Rattle.search.specs.Answering.{answerOf, tableAfter}
+use Rattle.lines.specs.Form.{mostKept}
 use Rattle.reader.specs.Reader.{inputOf}
 use Rattle.reader.specs.declared.reading.Input.{Input}
 use Rattle.planner.specs.Numbered.{packetsFor, planFor}
@@ -24,7 +26,7 @@ module _ (text table : List ℕ) (input : Input) (e : input ≡ inputOf text) wh
   unfolding planTable tableTo
   table-malformed m = sym (ap (λ (i : Input). tableTo i table) (sym e) ∙ rw (m, tableTo))
 
-  module _ (well : input .malformed ≡ false) (n : ℕ) (en : n ≡ 5 * min (input .flows) 65) where
+  module _ (well : input .malformed ≡ false) (n : ℕ) (en : n ≡ perFlow * min (input .flows) mostKept) where
     -- the numbers that are judged
     judged-are : take n (input .numbers) ≡ judgedOf input
     unfolding judgedOf

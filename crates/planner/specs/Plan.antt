@@ -4,18 +4,20 @@ use mathlib.Core.List.{List, []}
 use Prim.Native.Nat.{ℕ, _*_, min}
 use lib.ListN.{take, replicate}
 use Rattle.packet.specs.Packet.{Packet}
+use Rattle.model.specs.Flows.{perFlow}
 use Rattle.model.specs.Answers.{refusedBy}
 use Rattle.model.specs.declared.answers.Answer.{Answer}
 use Rattle.search.specs.Answering.{answerOf, tableAfter}
+use Rattle.lines.specs.Form.{mostKept}
 use Rattle.reader.specs.Reader.{inputOf}
 use Rattle.printer.specs.Printer.{outputOf}
 use Rattle.reader.specs.declared.reading.Input.{Input}
 use Rattle.planner.specs.Numbered.{packetsFor, planFor}
 use Rattle.planner.specs.declared.numbering.Plan.{Plan}
 
--- the flow numbers that are judged: five to a flow, of at most 65 flows, which are enough to be refused
+-- the flow numbers that are judged: those of at most 65 flows, which are enough to be refused
 unfoldable pub judgedOf : Input → List ℕ
-judgedOf input = take (5 * min (input .flows) 65) (input .numbers)
+judgedOf input = take (perFlow * min (input .flows) mostKept) (input .numbers)
 
 -- the answer to what a text says: number 1 where it is malformed, else that of the search
 unfoldable pub answerTo : Input → List ℕ → Answer

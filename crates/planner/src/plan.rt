@@ -2,19 +2,28 @@
 use crate::numbering::Plan;
 use crate::numbering::bare;
 use crate::numbering::with_packets;
+use lines::KEPT_NUMBERS;
+use lines::MOST_KEPT;
+use model::PER_FLOW;
 use model::Refusal;
 use model::refused;
 use reader::read;
 use search::search;
 ghost use mathlib.Core.Path.{_≡_};
 ghost use Prim.Native.Nat.{_*_, min};
+ghost use Rattle.model.specs.Flows.{perFlow};
+ghost use Rattle.lines.specs.Form.{mostKept};
 ghost use Rattle.planner.specs.Plan.{planOf, planTable};
 
-// How many flow numbers are judged: five to a flow, of at most 65 flows.
+// How many flow numbers are judged: those of all flows, or of the most that are kept.
 fn judged(flows: usize) -> usize
-    ensures { λ r. ⌜ r ≡ 5 * min flows 65 ⌝ }
+    ensures { λ r. ⌜ r ≡ perFlow * min flows mostKept ⌝ }
 {
-    if flows <= 65 { 5 * flows } else { 325 }
+    if flows <= MOST_KEPT {
+        PER_FLOW * flows
+    } else {
+        KEPT_NUMBERS
+    }
 }
 
 // The plan of a text: any bytes and any lent table are answered; a refusal leaves the table untouched.

@@ -11,6 +11,7 @@ use lib.ListN.{length}
 use Rattle.basics.specs.Choose.{both}
 use Rattle.basics.proofs.Choose.{both-pass, both-first, both-second}
 use Rattle.basics.proofs.Each.{Each}
+use Rattle.model.specs.Flows.{perFlow}
 use Rattle.model.specs.declared.flows.Mesh.{Mesh}
 use Rattle.digits.specs.Numbers.{numberOf, isDigit, allDigits, isNumber, valueOf, decimal}
 use Rattle.digits.specs.declared.digits.Number.the-variants.{Good}
@@ -133,9 +134,9 @@ line-first word numbers text w =
 
 -- ---- the flow lines
 
--- flows of five numbers that fit 32 bits
+-- flows with all their numbers, which fit 32 bits
 pub record Flow (numbers : List ℕ) : Type 0 where
-  pub five : length numbers ≡ 5
+  pub whole : length numbers ≡ perFlow
   pub fit : Fit numbers
 
 abbrev pub Flows : List (List ℕ) → Type 0
@@ -147,7 +148,7 @@ flow-good : (count : ℕ) (flow : List ℕ) → Flow flow → goodLine (count + 
 unfolding free
 flow-good count flow f =
     flow-kind count (bytes "flow" ++ fields flow)
-    ∙ ap (λ (n : ℕ). isRecord (bytes "flow") n (bytes "flow" ++ fields flow)) (sym (f .five))
+    ∙ ap (λ (n : ℕ). isRecord (bytes "flow") n (bytes "flow" ++ fields flow)) (sym (f .whole))
     ∙ line-record (bytes "flow") flow refl (f .fit)
 
 -- its part, and those behind it

@@ -10,7 +10,7 @@ use lib.ListN.{length, getD, drop}
 use Rattle.basics.proofs.Choose.{both-not}
 use Rattle.basics.proofs.Lists.{padded-at}
 use Rattle.words.specs.Bytes.{bytes}
-use Rattle.records.specs.Records.{isRecord, numbersIn}
+use Rattle.records.specs.Records.{isRecord, numbersIn, mostNumbers}
 use Rattle.records.proofs.Recording.{record-count}
 use Rattle.lines.specs.Form.{goodLine, badLine, partsOf, allNumbers, flowsKept}
 use Rattle.lines.specs.Steps.{lineFrom, feedFrom, goodFrom, lineAt, flowLines}
@@ -50,7 +50,7 @@ number-at : (word text : List ℕ) (n at : ℕ) (r : Line) → r ≡ lineAt word
 unfolding goodFrom
 number-at word text n at r e g i h =
     ap (λ (x : Line). getD (x .numbers) i 0) (line-from word text n at r e g)
-    ∙ padded-at 5 0 (numbersIn (lineFrom text at)) i 0 (omega (arith, record-count word (lineFrom text at) n (line-is word text n at r e g)))
+    ∙ padded-at mostNumbers 0 (numbersIn (lineFrom text at)) i 0 (omega (arith, record-count word (lineFrom text at) n (line-is word text n at r e g)))
 
 -- a good line ends within the text
 pub next-within : (word text : List ℕ) (n at : ℕ) (r : Line) → r ≡ lineAt word n text at → r .good ≡ true → r .next ≤ length text

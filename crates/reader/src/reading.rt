@@ -1,4 +1,5 @@
 // The text reader: a mesh line, a search line, then flow lines.
+use lines::KEPT_NUMBERS;
 use lines::no_numbers;
 use lines::read_flows;
 use lines::read_line;
@@ -12,14 +13,14 @@ ghost use Rattle.reader.specs.Reader.{malformedAt, inputOf};
 pub const LIMIT: usize = 8192;
 
 // What a text says. A malformed one has its first bad line (0 where the text is too long) and nothing else; of a well-formed one the
-// first 65 flows are kept, five numbers each, beside how many flow lines there are.
+// numbers of the first 65 flows are kept, beside how many flow lines there are.
 pub struct Input {
     pub malformed: bool,
     pub line: u32,
     pub mesh: Mesh,
     pub pruning: u32,
     pub threshold: u32,
-    pub numbers: [u32; 325],
+    pub numbers: [u32; KEPT_NUMBERS],
     pub flows: usize,
 }
 

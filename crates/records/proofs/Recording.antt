@@ -15,7 +15,7 @@ use Rattle.digits.specs.Numbers.{isNumber, valueOf, numberOf}
 use Rattle.digits.specs.declared.digits.Number.the-variants.{Good, Bad}
 use Rattle.digits.proofs.Spelling.{bad-number, good-number}
 use Rattle.words.specs.Bytes.{tab, sameBytes}
-use Rattle.records.specs.Records.{indexOf, largest, areNumbers, fieldsOf, isRecord, numbersIn, goodRecord, badRecord, recordOf}
+use Rattle.records.specs.Records.{indexOf, largest, areNumbers, fieldsOf, isRecord, numbersIn, mostNumbers, goodRecord, badRecord, recordOf}
 use Rattle.records.proofs.Places.{behind, split-at-first, behind-at, behind-end}
 
 -- ---- the whole line by its test
@@ -57,17 +57,17 @@ module _ (word line : List ℕ) (n end : ℕ) (e : end ≡ 0 + indexOf tab line)
 -- i numbers are read, and stand in the array; the fields from `end` on decide, and hold the other numbers
 pub record Walked (word line : List ℕ) (n end : ℕ) (numbers : List ℕ) (i : ℕ) : Type 0 where
   pub within : i ≤ n
-  pub most : n ≤ 5
+  pub most : n ≤ mostNumbers
   pub place : end ≤ length line
   pub done : List ℕ
   pub count : length done ≡ i
-  pub array : numbers ≡ padded 5 0 done
+  pub array : numbers ≡ padded mostNumbers 0 done
   pub test : areNumbers (n - i) (behind tab (drop end line)) ≡ isRecord word n line
   pub values : done ++ map valueOf (behind tab (drop end line)) ≡ numbersIn line
 
 -- behind the word
-pub walk-begins : (word line : List ℕ) (n end : ℕ) → n ≤ 5 → end ≤ length line → end ≡ 0 + indexOf tab line
-    → sameBytes (take end line) word ≡ true → Walked word line n end (padded 5 0 []) 0
+pub walk-begins : (word line : List ℕ) (n end : ℕ) → n ≤ mostNumbers → end ≤ length line → end ≡ 0 + indexOf tab line
+    → sameBytes (take end line) word ≡ true → Walked word line n end (padded mostNumbers 0 []) 0
 walk-begins word line n end h k e w = record {
   within = omega arith;
   most = h;
@@ -137,7 +137,7 @@ module _ (word line : List ℕ) (n end : ℕ) (numbers : List ℕ) (i : ℕ) (s 
     unfolding here
     walk-on l value g =
         let good = good-number 10 largest value here g in
-        let room : length (s .done) < 5 = omega (arith, s .count, s .most) in
+        let room : length (s .done) < mostNumbers = omega (arith, s .count, s .most) in
         record {
           within = omega arith;
           most = s .most;
@@ -145,8 +145,8 @@ module _ (word line : List ℕ) (n end : ℕ) (numbers : List ℕ) (i : ℕ) (s 
           done = s .done ++ (value ∷ []);
           count = omega (arith, length-append (s .done) (value ∷ []), s .count);
           array =
-              ap (λ (x : List ℕ). set x i value) (s .array) ∙ ap (λ (m : ℕ). set (padded 5 0 (s .done)) m value) (sym (s .count))
-              ∙ padded-push 5 0 (s .done) value room;
+              ap (λ (x : List ℕ). set x i value) (s .array) ∙ ap (λ (m : ℕ). set (padded mostNumbers 0 (s .done)) m value) (sym (s .count))
+              ∙ padded-push mostNumbers 0 (s .done) value room;
           test = sym (one-more ∙ rw (good .0)) ∙ s .test;
           values =
               append-assoc (s .done) (value ∷ []) (map valueOf (behind tab (drop next line)))

@@ -6,6 +6,7 @@ use lib.Dec.{eqb}
 use lib.ListN.{getD}
 use Rattle.basics.specs.Choose.{both, choose}
 use Rattle.basics.specs.Lists.{padded}
+use Rattle.model.specs.Flows.{perFlow}
 use Rattle.digits.specs.Numbers.{isNumber, valueOf}
 use Rattle.words.specs.Bytes.{tab, sameBytes}
 use Rattle.records.specs.declared.fields.Record.{Record}
@@ -48,13 +49,17 @@ isRecord word n line = both (sameBytes (getD (fieldsOf line) 0 []) word) (areNum
 unfoldable pub numbersIn : List ℕ → List ℕ
 numbersIn line = map valueOf (tail (fieldsOf line))
 
+-- the most numbers of a record: no line has more than a flow line
+abbrev pub mostNumbers : ℕ
+mostNumbers = perFlow
+
 -- a good line with its numbers
 unfoldable pub goodRecord : List ℕ → Record
-goodRecord numbers = record { good = true; numbers = padded 5 0 numbers }
+goodRecord numbers = record { good = true; numbers = padded mostNumbers 0 numbers }
 
 -- a bad line
 unfoldable pub badRecord : Record
-badRecord = record { good = false; numbers = padded 5 0 [] }
+badRecord = record { good = false; numbers = padded mostNumbers 0 [] }
 
 -- a line as the record of a word and so many numbers, or a bad one
 unfoldable pub recordOf : List ℕ → ℕ → List ℕ → Record

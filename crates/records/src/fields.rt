@@ -1,20 +1,24 @@
 // A line taken apart: its word, and the numbers behind it.
 use digits::Number;
 use digits::read_number;
+use model::PER_FLOW;
 use words::TAB;
 ghost use mathlib.Core.Path.{_≡_};
 ghost use Prim.Native.Nat.{_+_, _≤_};
 ghost use lib.ListN.{length, drop};
 ghost use Rattle.words.specs.Bytes.{sameBytes};
-ghost use Rattle.records.specs.Records.{indexOf, badRecord, recordOf};
+ghost use Rattle.records.specs.Records.{indexOf, mostNumbers, badRecord, recordOf};
 
 // The largest number that a field may hold.
 pub const LARGEST: u64 = 4_294_967_295;
 
+// The most numbers of a record: no line has more than a flow line.
+pub const MOST_NUMBERS: usize = PER_FLOW;
+
 // A line that is the record of a word, with its numbers, or a bad one.
 pub struct Record {
     pub good: bool,
-    pub numbers: [u32; 5],
+    pub numbers: [u32; MOST_NUMBERS],
 }
 
 // The place of the first such byte from a place on, else the length.
@@ -53,20 +57,20 @@ fn bad() -> Record
 {
     Record {
         good: false,
-        numbers: [0u32; 5],
+        numbers: [0u32; MOST_NUMBERS],
     }
 }
 
 // The line as the record of a word and n numbers.
 pub fn read_record(line: &[u8], word: &[u8], n: usize) -> Record
-    requires { ⌜ n ≤ 5 ⌝ }
+    requires { ⌜ n ≤ mostNumbers ⌝ }
     ensures { λ r. ⌜ r ≡ recordOf (now (word .entry)) n (now (line .entry)) ⌝ }
 {
     let mut end = find(line, TAB, 0);
     if !same_bytes(&line[..end], word) {
         return bad();
     }
-    let mut numbers = [0u32; 5];
+    let mut numbers = [0u32; MOST_NUMBERS];
     for i in 0..n {
         if line.len() <= end {
             return bad();

@@ -2,6 +2,7 @@
 mod fields;
 
 pub use fields::LARGEST;
+pub use fields::MOST_NUMBERS;
 pub use fields::Record;
 pub use fields::find;
 pub use fields::read_record;

@@ -1,4 +1,4 @@
--- `lines::flows::stored` meets its contract: after j turns the first j of the five stand in their places.
+-- `lines::flows::stored` meets its contract: after j turns the first j of the flow's numbers stand in their places.
 use mathlib.Core.Path.{_≡_, refl, sym, _∙_, ap}
 use mathlib.Core.List.{List}
 use Prim.Native.Nat.{ℕ, _+_, _-_, _*_, _≤_, _<_}
@@ -7,64 +7,66 @@ use native.Mathlib.Omega.{arith}
 use borrow.Author.Tests.{lt-ltb, le-ltb}
 use lib.ListN.{length, getD, set}
 use lib.Seq.{paste, paste-zero, paste-suc}
+use Rattle.model.specs.Flows.{perFlow}
+use Rattle.lines.specs.Form.{mostKept, keptNumbers}
 use Rattle.lines.specs.Steps.{storedAt}
 use borrow.Author.Needs.{needs}
 use Rattle.lines.proofs.flows.stored.Statement.{statement}
 use Rattle.lines.proofs.flows.stored.Tie as tie
 
--- j of the five stand in their places
-record Copied (count : ℕ) (five numbers : List ℕ) (at : ℕ) (next : List ℕ) (j : ℕ) : Type 0 where
-  pub room : count < 65
-  pub five-long : length five ≡ 5
-  pub long : length numbers ≡ 325
-  pub place : at ≡ 5 * count
-  pub within : j ≤ 5
-  pub copied : next ≡ paste numbers at five j
+-- j of the flow's numbers stand in their places
+record Copied (count : ℕ) (flow numbers : List ℕ) (at : ℕ) (next : List ℕ) (j : ℕ) : Type 0 where
+  pub room : count < mostKept
+  pub flow-long : length flow ≡ perFlow
+  pub long : length numbers ≡ keptNumbers
+  pub place : at ≡ perFlow * count
+  pub within : j ≤ perFlow
+  pub copied : next ≡ paste numbers at flow j
 
 -- there is no room
-full : (count : ℕ) (five numbers : List ℕ) → 65 ≤ count → numbers ≡ storedAt numbers count five
+full : (count : ℕ) (flow numbers : List ℕ) → mostKept ≤ count → numbers ≡ storedAt numbers count flow
 unfolding storedAt
-full count five numbers h = sym (rw (le-ltb count 65 h))
+full count flow numbers h = sym (rw (le-ltb count mostKept h))
 
 -- none stands there yet
-begins : (count : ℕ) (five numbers : List ℕ) → count < 65 → length five ≡ 5 → length numbers ≡ 325 → Copied count five numbers (5 * count) numbers 0
-begins count five numbers h f l = record {
+begins : (count : ℕ) (flow numbers : List ℕ) → count < mostKept → length flow ≡ perFlow → length numbers ≡ keptNumbers → Copied count flow numbers (perFlow * count) numbers 0
+begins count flow numbers h f l = record {
   room = h;
-  five-long = f;
+  flow-long = f;
   long = l;
   place = refl;
   within = omega arith;
-  copied = paste-zero numbers (5 * count) five;
+  copied = paste-zero numbers (perFlow * count) flow;
 }
 
-module _ (count : ℕ) (five numbers : List ℕ) (at : ℕ) (next : List ℕ) (j : ℕ) (s : Copied count five numbers at next j) where
+module _ (count : ℕ) (flow numbers : List ℕ) (at : ℕ) (next : List ℕ) (j : ℕ) (s : Copied count flow numbers at next j) where
   -- one more
-  onward : j < 5 → Copied count five numbers at (set next (at + j) (getD five j 0)) (j + 1)
+  onward : j < perFlow → Copied count flow numbers at (set next (at + j) (getD flow j 0)) (j + 1)
   onward h = record {
     room = s .room;
-    five-long = s .five-long;
+    flow-long = s .flow-long;
     long = s .long;
     place = s .place;
     within = omega arith;
     copied =
-        ap (λ (l : List ℕ). set l (at + j) (getD five j 0)) (s .copied)
-        ∙ paste-suc numbers at five j 0 (omega arith) (omega arith)
-        ∙ ap (λ (k : ℕ). paste numbers at five k) (sym (add-one j));
+        ap (λ (l : List ℕ). set l (at + j) (getD flow j 0)) (s .copied)
+        ∙ paste-suc numbers at flow j 0 (omega arith) (omega arith)
+        ∙ ap (λ (k : ℕ). paste numbers at flow k) (sym (add-one j));
   }
 
-  -- all five
-  whole : 5 ≤ j → next ≡ storedAt numbers count five
+  -- all of them
+  whole : perFlow ≤ j → next ≡ storedAt numbers count flow
   unfolding storedAt
   whole h =
-      let five-of : j ≡ 5 = omega arith in
-      rw (lt-ltb count 65 (s .room))
-      (s .copied ∙ ap (λ (k : ℕ). paste numbers at five k) five-of ∙ ap (λ (k : ℕ). paste numbers k five 5) (s .place))
+      let all : j ≡ perFlow = omega arith in
+      rw (lt-ltb count mostKept (s .room))
+      (s .copied ∙ ap (λ (k : ℕ). paste numbers at flow k) all ∙ ap (λ (k : ℕ). paste numbers k flow perFlow) (s .place))
 
 abbrev Inv-loop : tie.InvT-loop
-Inv-loop count five next₀ at j₀ next j = Copied count five next₀ at next j
+Inv-loop count flow next₀ at j₀ next j = Copied count flow next₀ at next j
 
 abbrev μ-loop : tie.MeasureT-loop
-μ-loop count five next₀ at j₀ next j = 5 - j
+μ-loop count flow next₀ at j₀ next j = perFlow - j
 
 returns : tie.Need-returns Inv-loop μ-loop
 returns c = full _ _ _ (c .if1 .taken)

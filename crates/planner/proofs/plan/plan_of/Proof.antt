@@ -5,6 +5,7 @@ use native.Mathlib.Omega.{arith}
 use lib.ListN.{length}
 use lib.Seq.{length-take-le}
 use Rattle.model.specs.declared.answers.Answer.{Answer}
+use Rattle.lines.specs.Form.{keptNumbers}
 use Rattle.planner.specs.Numbered.{planFor}
 use Rattle.planner.proofs.Planning.{plan-malformed, table-malformed, plan-searched, table-searched}
 use borrow.Author.Needs.{needs}
@@ -27,19 +28,19 @@ judged-requires : tie.Need-judged-requires
 judged-requires c κs = search needs
 
 array-share-prefix-numbers : tie.Need-array-share-prefix-numbers
-array-share-prefix-numbers c = let long : length (c .before .before .before .before .read .result .numbers) ≡ 325 = search needs in omega (arith, c .judged .ensures)
+array-share-prefix-numbers c = let long : length (c .before .before .before .before .read .result .numbers) ≡ keptNumbers = search needs in omega (arith, c .judged .ensures)
 
 slice-aggregate-search : tie.Need-slice-aggregate-search
-slice-aggregate-search c = let long : length (c .before .before .before .before .before .read .result .numbers) ≡ 325 = search needs in sym (length-take-le (c .before .judged .result) (c .before .before .before .before .before .read .result .numbers) (omega (arith, c .before .judged .ensures)))
+slice-aggregate-search c = let long : length (c .before .before .before .before .before .read .result .numbers) ≡ keptNumbers = search needs in sym (length-take-le (c .before .judged .result) (c .before .before .before .before .before .read .result .numbers) (omega (arith, c .before .judged .ensures)))
 
 search-requires : tie.Need-search-requires
 search-requires c κs = search needs
 
 array-share-prefix-numbers-2 : tie.Need-array-share-prefix-numbers-2
-array-share-prefix-numbers-2 c = let long : length (c .before .before .before .before .before .before .before .before .before .read .result .numbers) ≡ 325 = search needs in omega (arith, c .before .before .before .before .before .judged .ensures)
+array-share-prefix-numbers-2 c = let long : length (c .before .before .before .before .before .before .before .before .before .read .result .numbers) ≡ keptNumbers = search needs in omega (arith, c .before .before .before .before .before .judged .ensures)
 
 slice-aggregate-with-packets : tie.Need-slice-aggregate-with-packets
-slice-aggregate-with-packets c = let long : length (c .before .before .before .before .before .before .before .before .before .before .read .result .numbers) ≡ 325 = search needs in sym (length-take-le (c .before .before .before .before .before .before .judged .result) (c .before .before .before .before .before .before .before .before .before .before .read .result .numbers) (omega (arith, c .before .before .before .before .before .before .judged .ensures)))
+slice-aggregate-with-packets c = let long : length (c .before .before .before .before .before .before .before .before .before .before .read .result .numbers) ≡ keptNumbers = search needs in sym (length-take-le (c .before .before .before .before .before .before .judged .result) (c .before .before .before .before .before .before .before .before .before .before .read .result .numbers) (omega (arith, c .before .before .before .before .before .before .judged .ensures)))
 
 with-packets-requires : tie.Need-with-packets-requires
 with-packets-requires c κs = search needs
