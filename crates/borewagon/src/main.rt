@@ -5,6 +5,7 @@ use planner::Plan;
 use planner::plan_of;
 use printer::Cursor;
 use printer::put_piece;
+use reader::TEXT_BUFFER;
 
 // The most lines that are printed: the table line, 1,024 packets and the end line.
 const LINES: usize = 1026;
@@ -29,9 +30,9 @@ fn print(plan: Plan, table: &[u32]) {
     }
 }
 
-// One byte past the limit is read, so that a text that is too long is seen.
+// Reads the text, has it planned, and prints the answer.
 fn main() {
-    let mut text = [0u8; 8193];
+    let mut text = [0u8; TEXT_BUFFER];
     let n = io::read_full(STDIN_FILENO, &mut text);
     let mut table = [0u32; 1024];
     let plan = plan_of(&text[..n], &mut table);

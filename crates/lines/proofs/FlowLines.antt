@@ -14,7 +14,7 @@ use Rattle.model.specs.Flows.{perFlow}
 use Rattle.words.specs.Bytes.{bytes}
 use Rattle.records.specs.Records.{splitBy, fieldsOf, isRecord, numbersIn}
 use Rattle.records.proofs.Recording.{record-count}
-use Rattle.lines.specs.Form.{goodLine, badLine, partsOf, allNumbers, flowsKept}
+use Rattle.lines.specs.Form.{limit, goodLine, badLine, partsOf, allNumbers, flowsKept}
 use Rattle.lines.specs.Steps.{lineFrom, feedFrom, goodFrom, lineAt, storedAt, flowLines}
 use Rattle.lines.specs.declared.taking.Line.{Line}
 use Rattle.lines.proofs.TextLines.{line-ends, line-is, line-from, parts-on, line-bad, line-good}
@@ -52,7 +52,7 @@ flows-first parts = go (eqb (badLine 3 parts) 0) refl
 -- so many flows are read, and the numbers of the first of them are kept; the lines from `at` on decide, and hold the other numbers
 pub record Flowing (text : List ℕ) (from at count : ℕ) (numbers : List ℕ) : Type 0 where
   pub within : at ≤ length text
-  pub small : length text ≤ 8192
+  pub small : length text ≤ limit
   pub few : count ≤ at
   pub done : List ℕ
   pub size : length done ≡ perFlow * count
@@ -62,7 +62,7 @@ pub record Flowing (text : List ℕ) (from at count : ℕ) (numbers : List ℕ) 
   pub lines : count + length (partsOf (drop at text)) ≡ length (partsOf (drop from text))
 
 -- none is read yet
-pub flowing-begins : (text : List ℕ) (from : ℕ) (numbers : List ℕ) → from ≤ length text → length text ≤ 8192 → numbers ≡ flowsKept []
+pub flowing-begins : (text : List ℕ) (from : ℕ) (numbers : List ℕ) → from ≤ length text → length text ≤ limit → numbers ≡ flowsKept []
     → Flowing text from from 0 numbers
 flowing-begins text from numbers h k e = record {
   within = h;

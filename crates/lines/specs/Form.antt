@@ -12,6 +12,10 @@ use Rattle.records.specs.Records.{splitBy, isRecord, numbersIn}
 
 -- ---- form
 
+-- the most bytes of a text
+abbrev pub limit : ℕ
+limit = 8192
+
 -- line 1 is a mesh line of four numbers, line 2 a search line of two, every further line a flow line of a flow's numbers
 unfoldable pub goodLine : ℕ → List ℕ → Bool
 goodLine n line =

@@ -7,7 +7,7 @@ ghost use mathlib.Core.Path.{_≡_};
 ghost use mathlib.Core.List.{[]};
 ghost use Prim.Native.Nat.{_≤_};
 ghost use lib.ListN.{length, drop};
-ghost use Rattle.lines.specs.Form.{partsOf, flowsKept};
+ghost use Rattle.lines.specs.Form.{limit, partsOf, flowsKept};
 ghost use Rattle.lines.specs.Steps.{storedAt, flowLines};
 
 // The most flows whose numbers are kept: 65 are enough to be refused.
@@ -51,7 +51,7 @@ fn stored(
 
 // The flow lines from a place on, of which the first is line 3.
 pub fn read_flows(text: &[u8], from: usize) -> Lines
-    requires { ⌜ (from ≤ length (now text)) × (length (now text) ≤ 8192) ⌝ }
+    requires { ⌜ (from ≤ length (now text)) × (length (now text) ≤ limit) ⌝ }
     ensures { λ r. ⌜ r ≡ flowLines (partsOf (drop from (now (text .entry)))) ⌝ }
 {
     let mut at = from;

@@ -20,10 +20,10 @@ use Rattle.digits.proofs.Spelling.{digit-low, good-number}
 use Rattle.words.specs.Bytes.{bytes, tab, feed, sameBytes}
 use Rattle.words.specs.Fields.{field, ended}
 use Rattle.records.specs.Records.{onto, splitBy, largest, areNumbers, fieldsOf, isRecord, numbersIn}
-use Rattle.lines.specs.Form.{goodLine, badLine, partsOf, allNumbers, flowsKept}
+use Rattle.lines.specs.Form.{limit, goodLine, badLine, partsOf, allNumbers, flowsKept}
 use Rattle.lines.proofs.FlowLines.{flow-kind}
 use Rattle.lines.proofs.TextLines.{bad-later}
-use Rattle.reader.specs.Reader.{limit, inputOf}
+use Rattle.reader.specs.Reader.{inputOf}
 use Rattle.reader.specs.ModelText.{fields, lineOf, flowText, modelText, allOf}
 use Rattle.reader.proofs.WholeText.{says, says-parts, input-good}
 

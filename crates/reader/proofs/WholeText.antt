@@ -12,13 +12,13 @@ use Rattle.basics.proofs.Lists.{padded-at}
 use Rattle.words.specs.Bytes.{bytes}
 use Rattle.records.specs.Records.{isRecord, numbersIn, mostNumbers}
 use Rattle.records.proofs.Recording.{record-count}
-use Rattle.lines.specs.Form.{goodLine, badLine, partsOf, allNumbers, flowsKept}
+use Rattle.lines.specs.Form.{limit, goodLine, badLine, partsOf, allNumbers, flowsKept}
 use Rattle.lines.specs.Steps.{lineFrom, feedFrom, goodFrom, lineAt, flowLines}
 use Rattle.lines.specs.declared.taking.Line.{Line}
 use Rattle.lines.specs.declared.flows.Lines.{Lines}
 use Rattle.lines.proofs.TextLines.{line-ends, line-is, line-from, parts-on, line-bad, line-good}
 use Rattle.lines.proofs.FlowLines.{flows-first, flows-good}
-use Rattle.reader.specs.Reader.{meshOf, limit, malformedAt, wellFormed, inputIn, inputOf}
+use Rattle.reader.specs.Reader.{meshOf, malformedAt, wellFormed, inputIn, inputOf}
 use Rattle.reader.specs.declared.reading.Input.{Input}
 
 -- ---- the answer by the first bad line

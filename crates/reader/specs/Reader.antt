@@ -7,16 +7,12 @@ use lib.ListN.{length, getD, drop}
 use Rattle.basics.specs.Choose.{choose}
 use Rattle.model.specs.declared.flows.Mesh.{Mesh}
 use Rattle.records.specs.Records.{numbersIn}
-use Rattle.lines.specs.Form.{badLine, partsOf, allNumbers, flowsKept}
+use Rattle.lines.specs.Form.{limit, badLine, partsOf, allNumbers, flowsKept}
 use Rattle.reader.specs.declared.reading.Input.{Input}
 
 -- columns, rows, r and flit width
 unfoldable pub meshOf : List ℕ → Mesh
 meshOf numbers = record { columns = getD numbers 0 0; rows = getD numbers 1 0; r = getD numbers 2 0; flit = getD numbers 3 0 }
-
--- the largest text
-abbrev pub limit : ℕ
-limit = 8192
 
 -- text that is malformed, with its first bad line
 unfoldable pub malformedAt : ℕ → Input

@@ -9,8 +9,11 @@ use words::SEARCH;
 ghost use mathlib.Core.Path.{_≡_};
 ghost use Rattle.reader.specs.Reader.{malformedAt, inputOf};
 
-// The largest text that is read.
+// The most bytes of a text.
 pub const LIMIT: usize = 8192;
+
+// A buffer of so many bytes, one past the limit, shows a text that is too long.
+pub const TEXT_BUFFER: usize = LIMIT + 1;
 
 // What a text says. A malformed one has its first bad line (0 where the text is too long) and nothing else; of a well-formed one the
 // numbers of the first 65 flows are kept, beside how many flow lines there are.

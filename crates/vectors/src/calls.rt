@@ -17,6 +17,7 @@ use planner::Plan;
 use planner::plan_of;
 use printer::Cursor;
 use printer::put_piece;
+use reader::LIMIT;
 use search::search;
 
 // A mesh and the stream after it.
@@ -156,9 +157,12 @@ fn put_plan(plan: Plan, table: &[u32]) {
     }
 }
 
+// The most bytes of a text in a call: enough to pass the limit.
+const CALL_TEXT: usize = LIMIT + 256;
+
 // A text: its length and a line feed, then its bytes.
 fn text_call(buffer: &mut [u8], stream: Stream) -> Stream {
-    let mut text = [0u8; 8448];
+    let mut text = [0u8; CALL_TEXT];
     let mut table = [0u32; 1024];
     let asked = next_text(buffer, stream, &mut text);
     let plan = plan_of(front(&text, asked.len), &mut table);
