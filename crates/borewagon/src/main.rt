@@ -4,20 +4,19 @@ use libc::STDOUT_FILENO;
 use planner::Plan;
 use planner::plan_of;
 use printer::Cursor;
+use printer::LINE;
+use printer::MOST_LINES;
 use printer::put_piece;
 use reader::TEXT_BUFFER;
-
-// The most lines that are printed: the table line, 1,024 packets and the end line.
-const LINES: usize = 1026;
 
 // Writes the lines of a plan, one after the other; a closed output ends it.
 fn print(plan: Plan, table: &[u32]) {
     let answer = plan.answer;
     let flow = plan.flow;
     let turn = plan.turn;
-    let mut line = [0u8; 96];
+    let mut line = [0u8; LINE];
     let mut cursor = Cursor::First;
-    for _ in 0..LINES {
+    for _ in 0..MOST_LINES {
         let piece = put_piece(cursor, answer, table, &flow, &turn, &mut line);
         let len = piece.len;
         if !io::write_all(STDOUT_FILENO, &line[..len]) {

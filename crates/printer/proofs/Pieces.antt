@@ -49,14 +49,14 @@ module _ (answer : Answer) (table flows turns : List ℕ) where
   module _ (before after : List ℕ) (h : longest ≤ length before) where
     -- a line that was put in front of the buffer
     pub a-line : (cursor next : Cursor) (text : List ℕ) (len : ℕ) → pieceAt answer table flows turns cursor ≡ text → nextOf answer cursor ≡ next
-        → Put 96 before after 0 text len
+        → Put longest before after 0 text len
         → Printed answer table flows turns before after cursor (record { len = len; next = next; done = isDone next })
     unfolding pieceIn nextIn pieceOf
     a-line cursor next text len e f p = record {
       answer-is =
           rw (le-ltb (length before) longest h, e, f)
           (ap (λ (k : ℕ). record { len = k; next = next; done = isDone next }) (p .place ∙ (let k : 0 + length text ≡ length text = omega arith in k)));
-      buffer-is = rw (le-ltb (length before) longest h, e) (put-front 96 before after text len p);
+      buffer-is = rw (le-ltb (length before) longest h, e) (put-front longest before after text len p);
     }
 
     -- behind all lines

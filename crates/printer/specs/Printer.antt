@@ -112,6 +112,10 @@ piecesLeft answer First = answer .packets + 2
 piecesLeft answer (Packet p) = answer .packets - p + 1
 piecesLeft answer Done = 0
 
+-- the most lines of an answer: the table line, 1,024 packets and the end line
+abbrev pub mostLines : ℕ
+mostLines = 1024 + 2
+
 -- the pieces of n steps, one after the other
 unfoldable pub piecesOf : Answer → List ℕ → List ℕ → List ℕ → ℕ → Cursor → List ℕ
 piecesOf answer table flows turns zero cursor = []

@@ -15,11 +15,14 @@ ghost use Prim.Native.Nat.{_+_, _≤_};
 ghost use lib.ListN.{length, getD};
 ghost use Rattle.words.specs.Fields.{field, ended};
 ghost use Rattle.words.specs.Writer.{Put};
-ghost use Rattle.printer.specs.Printer.{injectLine, endLine, printsTable, Printed};
+ghost use Rattle.printer.specs.Printer.{injectLine, endLine, printsTable, longest, Printed};
 ghost use Rattle.printer.specs.declared.printing.Cursor.the-variants.{First, Packet};
 
 // A buffer of so many bytes has room for any line.
 pub const LINE: usize = 96;
+
+// The most lines of an answer: the table line, 1,024 packets and the end line.
+pub const MOST_LINES: usize = 1024 + 2;
 
 // Where the printer stands: before the first line, before a packet's line (or the end line, behind the last packet), or behind all.
 pub enum Cursor {
@@ -67,8 +70,8 @@ fn prints_table(number: u32) -> bool
 
 // A line of a word and two numbers.
 fn put_two(out: &mut [u8], word: &[u8], a: u64, b: u64) -> usize
-    requires { ⌜ (length (now word) ≤ 6) × (96 ≤ length (now out)) ⌝ }
-    ensures { λ r. ⌜ Put 96 (now (out .entry)) (now (out .exit)) 0 (now (word .entry) ++ field a ++ field b ++ ended) r ⌝ }
+    requires { ⌜ (length (now word) ≤ 6) × (longest ≤ length (now out)) ⌝ }
+    ensures { λ r. ⌜ Put longest (now (out .entry)) (now (out .exit)) 0 (now (word .entry) ++ field a ++ field b ++ ended) r ⌝ }
 {
     let one = put_word(out, 0, word);
     let two = put_field(out, one, a);
@@ -78,8 +81,8 @@ fn put_two(out: &mut [u8], word: &[u8], a: u64, b: u64) -> usize
 
 // An end line.
 fn put_end(out: &mut [u8], passes: u64, tries: u64, skipped: u64) -> usize
-    requires { ⌜ 96 ≤ length (now out) ⌝ }
-    ensures { λ r. ⌜ Put 96 (now (out .entry)) (now (out .exit)) 0 (endLine passes tries skipped) r ⌝ }
+    requires { ⌜ longest ≤ length (now out) ⌝ }
+    ensures { λ r. ⌜ Put longest (now (out .entry)) (now (out .exit)) 0 (endLine passes tries skipped) r ⌝ }
 {
     let one = put_word(out, 0, &END);
     let two = put_field(out, one, passes);
@@ -90,8 +93,8 @@ fn put_end(out: &mut [u8], passes: u64, tries: u64, skipped: u64) -> usize
 
 // An inject line.
 fn put_inject(out: &mut [u8], packet: u64, flow: u64, turn: u64, time: u32) -> usize
-    requires { ⌜ 96 ≤ length (now out) ⌝ }
-    ensures { λ r. ⌜ Put 96 (now (out .entry)) (now (out .exit)) 0 (injectLine packet flow turn time) r ⌝ }
+    requires { ⌜ longest ≤ length (now out) ⌝ }
+    ensures { λ r. ⌜ Put longest (now (out .entry)) (now (out .exit)) 0 (injectLine packet flow turn time) r ⌝ }
 {
     let one = put_word(out, 0, &INJECT);
     let two = put_field(out, one, packet);
@@ -103,7 +106,7 @@ fn put_inject(out: &mut [u8], packet: u64, flow: u64, turn: u64, time: u32) -> u
 
 // The first line: the table line, or the refuse line, behind which nothing is left.
 fn put_first(answer: Answer, table: &[u32], flows: &[u16], turns: &[u16], out: &mut [u8]) -> Piece
-    requires { ⌜ 96 ≤ length (now out) ⌝ }
+    requires { ⌜ longest ≤ length (now out) ⌝ }
     ensures { λ r. ⌜ Printed answer (now (table .entry)) (now (flows .entry)) (now (turns .entry)) (now (out .entry)) (now (out .exit)) First r ⌝ }
 {
     if prints_table(answer.number) {
@@ -131,7 +134,7 @@ fn put_packet(
     turns: &[u16],
     out: &mut [u8],
 ) -> Piece
-    requires { ⌜ 96 ≤ length (now out) ⌝ }
+    requires { ⌜ longest ≤ length (now out) ⌝ }
     ensures { λ r. ⌜ Printed answer (now (table .entry)) (now (flows .entry)) (now (turns .entry)) (now (out .entry)) (now (out .exit)) (Packet p) r ⌝ }
 {
     if p < answer.packets {

@@ -16,6 +16,8 @@ use model::Mesh;
 use planner::Plan;
 use planner::plan_of;
 use printer::Cursor;
+use printer::LINE;
+use printer::MOST_LINES;
 use printer::put_piece;
 use reader::LIMIT;
 use search::search;
@@ -136,17 +138,14 @@ fn search_call(buffer: &mut [u8], line: &mut [u8], stream: Stream) -> Stream {
     lent.stream
 }
 
-// The most lines of a printed answer: the table line, 1,024 packets and the end line.
-const LINES: usize = 1026;
-
 // Writes the lines of a plan, one after the other.
 fn put_plan(plan: Plan, table: &[u32]) {
     let answer = plan.answer;
     let flow = plan.flow;
     let turn = plan.turn;
-    let mut line = [0u8; 96];
+    let mut line = [0u8; LINE];
     let mut cursor = Cursor::First;
-    for _ in 0..LINES {
+    for _ in 0..MOST_LINES {
         let piece = put_piece(cursor, answer, table, &flow, &turn, &mut line);
         let len = piece.len;
         io::write_all(STDOUT_FILENO, &line[..len]);

@@ -4,16 +4,17 @@ use lib.Seq.{length-take-le}
 use Prim.Native.Nat.{_-_, _≤_}
 use native.Mathlib.Omega.{arith}
 use lib.ListN.{length}
+use Rattle.printer.specs.Printer.{longest, mostLines}
 use Rattle.printer.proofs.Pieces.{piece-fits}
 use borrow.Author.Needs.{needs}
 use Rattle.borewagon.proofs.print.Statement.{statement}
 use Rattle.borewagon.proofs.print.Tie as tie
 
 abbrev Inv-loop : tie.InvT-loop
-Inv-loop table answer flow turn line₀ cursor₀ counter₀ line cursor counter = (counter ≤ 1026) × (length line ≡ 96) × (length flow ≡ 1024) × (length turn ≡ 1024)
+Inv-loop table answer flow turn line₀ cursor₀ counter₀ line cursor counter = (counter ≤ mostLines) × (length line ≡ longest) × (length flow ≡ 1024) × (length turn ≡ 1024)
 
 abbrev μ-loop : tie.MeasureT-loop
-μ-loop table answer flow turn line₀ cursor₀ counter₀ line cursor counter = 1026 - counter
+μ-loop table answer flow turn line₀ cursor₀ counter₀ line cursor counter = mostLines - counter
 
 loop-holds : tie.Need-loop-holds Inv-loop μ-loop
 loop-holds c = (omega arith, search needs, search needs, search needs)

@@ -2,7 +2,7 @@
 use native.Mathlib.Omega.{arith}
 use Rattle.words.specs.Fields.{ended}
 use Rattle.words.proofs.Putting.{put-next, put-within}
-use Rattle.printer.specs.Printer.{endLine}
+use Rattle.printer.specs.Printer.{endLine, longest}
 use borrow.Author.Needs.{needs}
 use Rattle.printer.proofs.printing.put_end.Statement.{statement}
 use Rattle.printer.proofs.printing.put_end.Tie as tie
@@ -41,7 +41,7 @@ returns c =
     let line3 = put-next _ 21 _ _ _ _ _ _ _ _ (omega (arith, start .pre)) line2 (at-put-field2 .put-field2 .ensures) in
     let line4 = put-next _ 21 _ _ _ _ _ _ _ _ (omega (arith, start .pre)) line3 (at-put-field3 .put-field3 .ensures) in
     let line5 = put-next _ 1 _ _ _ _ _ _ _ _ (omega (arith, start .pre)) line4 (at-put-byte .put-byte .ensures) in
-    put-within _ 96 _ _ _ _ _ (omega (arith, start .pre)) line5
+    put-within _ longest _ _ _ _ _ (omega (arith, start .pre)) line5
 
 pub put-end-spec : {M : Type 1} → statement M
 put-end-spec =

@@ -2,7 +2,7 @@
 use native.Mathlib.Omega.{arith}
 use Rattle.words.specs.Fields.{ended}
 use Rattle.words.proofs.Putting.{put-next, put-within}
-use Rattle.printer.specs.Printer.{injectLine}
+use Rattle.printer.specs.Printer.{injectLine, longest}
 use borrow.Author.Needs.{needs}
 use Rattle.printer.proofs.printing.put_inject.Statement.{statement}
 use Rattle.printer.proofs.printing.put_inject.Tie as tie
@@ -46,7 +46,7 @@ returns c =
     let line4 = put-next _ 21 _ _ _ _ _ _ _ _ (omega (arith, start .pre)) line3 (at-put-field3 .put-field3 .ensures) in
     let line5 = put-next _ 21 _ _ _ _ _ _ _ _ (omega (arith, start .pre)) line4 (at-put-time .put-time .ensures) in
     let line6 = put-next _ 1 _ _ _ _ _ _ _ _ (omega (arith, start .pre)) line5 (at-put-byte .put-byte .ensures) in
-    put-within _ 96 _ _ _ _ _ (omega (arith, start .pre)) line6
+    put-within _ longest _ _ _ _ _ (omega (arith, start .pre)) line6
 
 pub put-inject-spec : {M : Type 1} → statement M
 put-inject-spec =

@@ -2,6 +2,7 @@
 use native.Mathlib.Omega.{arith}
 use Rattle.words.specs.Fields.{ended}
 use Rattle.words.proofs.Putting.{put-next, put-within}
+use Rattle.printer.specs.Printer.{longest}
 use borrow.Author.Needs.{needs}
 use Rattle.printer.proofs.printing.put_two.Statement.{statement}
 use Rattle.printer.proofs.printing.put_two.Tie as tie
@@ -32,7 +33,7 @@ returns c =
     let line2 = put-next _ 21 _ _ _ _ _ _ _ _ (omega (arith, start .pre)) (at-put-word .put-word .ensures) (at-put-field .put-field .ensures) in
     let line3 = put-next _ 21 _ _ _ _ _ _ _ _ (omega (arith, start .pre)) line2 (at-put-field2 .put-field2 .ensures) in
     let line4 = put-next _ 1 _ _ _ _ _ _ _ _ (omega (arith, start .pre)) line3 (at-put-byte .put-byte .ensures) in
-    put-within _ 96 _ _ _ _ _ (omega (arith, start .pre)) line4
+    put-within _ longest _ _ _ _ _ (omega (arith, start .pre)) line4
 
 pub put-two-spec : {M : Type 1} → statement M
 put-two-spec =
