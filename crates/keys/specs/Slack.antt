@@ -1,10 +1,20 @@
--- The slacks of a model's packets, as the search's code holds them.
+-- The slack of a packet, and the slacks of a model's packets as the search's code holds them.
 use mathlib.Core.List.{List}
 use Prim.Native.Nat.{ℕ, _-_, _≤_, _<_}
 use lib.ListN.{getD}
 use Rattle.basics.specs.Lists.{tabulate, padded}
 use Rattle.hyper.specs.Hyper.{most}
+use Rattle.packet.specs.Packet.{Packet}
+use Rattle.packet.specs.Table.{packetAt}
 use Rattle.arrays.specs.declared.build.Model.{Model}
+
+-- slack: D − occupancy, where D is the deadline from the release on
+unfoldable pub slackOf : Packet → ℕ
+slackOf p = p .deadline - p .release - p .occupancy
+
+-- the slack of packet number p
+unfoldable pub slackAt : List Packet → ℕ → ℕ
+slackAt ps p = slackOf (packetAt ps p)
 
 -- D − occupancy of packet p, read off the arrays
 unfoldable pub slackIn : List ℕ → List ℕ → List ℕ → ℕ → ℕ

@@ -20,10 +20,11 @@ use Rattle.limits.specs.Limits.{outOfRange, badMesh, badList, badNodes, badTime
 use Rattle.refusals.specs.Refusals.{badHyper, badPackets, refuseIf, orElse, flowRefusal, badFlow, flowsRefusal, sumsRefusal, refusalOf}
 use Rattle.model.specs.Answers.{refusedBy}
 use Rattle.placing.specs.Placing.{inTheWay, free, timeOf, slotsOf, takenOf, placedBy, placingOf}
-use Rattle.order.specs.Order.{insert, sorted, slackOf, slackAt}
+use Rattle.order.specs.Order.{insert, sorted}
 use Rattle.settling.specs.Settling.{raised}
 use Rattle.passes.specs.Pass.{passFrom, passOver}
 use Rattle.passes.specs.Passes.{passesFrom, ceiling, searchBy, skippedIn, lowestSkipped}
+use Rattle.keys.specs.Slack.{slackOf, slackAt}
 use Rattle.reports.specs.Reports.{numberFor, placeFor}
 use Rattle.search.specs.Answering.{badSettings, settingsRefusal, badTable, searchRefusal, foundAnswer, answerOf, tableAfter}
 use Rattle.audit.specs.Check.{tooShort, checkRefusal, collided, passedWith, firstMeeting, verdictOf, checkOf}

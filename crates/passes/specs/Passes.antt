@@ -7,7 +7,7 @@ use Rattle.basics.specs.First.{first}
 use Rattle.basics.specs.Sums.{countOf}
 use Rattle.packet.specs.Packet.{Packet}
 use Rattle.packet.specs.Table.{none, placed}
-use Rattle.order.specs.Order.{sorted, slackAt}
+use Rattle.order.specs.Order.{sorted}
 use Rattle.passes.specs.Pass.{passOver}
 
 -- what the search leaves: the table, the passes begun, and the times tried
@@ -35,10 +35,6 @@ ceiling packets g = packets * (g - 1) + 1
 -- the search over any list of packets: the list in order of a key, no packet failed yet
 unfoldable pub searchBy : (ℕ → ℕ) → List Packet → ℕ → ℕ → Found
 searchBy key ps f g = passesFrom (ceiling (length ps) g) ps f g (sorted key 0 (length ps)) (replicate (length ps) 0) 0 0
-
--- the list starts in order of least slack
-abbrev pub searchOf : List Packet → ℕ → ℕ → Found
-searchOf ps f g = searchBy (slackAt ps) ps f g
 
 -- how many packets are skipped: their places hold no time
 unfoldable pub skippedIn : List Packet → List ℕ → ℕ

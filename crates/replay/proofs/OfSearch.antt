@@ -17,10 +17,9 @@ use Rattle.refusals.proofs.Accepted.{accepted-fair, fair-accepted}
 use Rattle.model.proofs.Numbering.{packets-length}
 use Rattle.refusals.proofs.Order.{or-none}
 use Rattle.audit.specs.Check.{checkOf}
-use Rattle.order.specs.Order.{slackAt}
-use Rattle.passes.specs.Passes.{searchOf}
+use Rattle.keys.specs.Slack.{slackAt}
 use Rattle.passes.proofs.Complete.{search-length}
-use Rattle.search.specs.Answering.{settingsRefusal, searchRefusal, answerOf, tableAfter}
+use Rattle.search.specs.Answering.{settingsRefusal, searchRefusal, searchOf, answerOf, tableAfter}
 use Rattle.search.proofs.Promises.{complete-search}
 use Rattle.replay.specs.Demand.{Offered, Replays, Received}
 use Rattle.replay.proofs.OfModel.{model-sound}

@@ -29,12 +29,12 @@ use Rattle.refusals.proofs.Accepted.{accepted-fair, accepted-between}
 use Rattle.model.proofs.Numbering.{packets-length}
 use Rattle.arrays.proofs.Reading.{model-count}
 use Rattle.packet.specs.Table.{none, placed}
-use Rattle.order.specs.Order.{slackAt}
-use Rattle.passes.specs.Passes.{Found, searchOf, skippedIn, lowestSkipped}
+use Rattle.passes.specs.Passes.{Found, skippedIn, lowestSkipped}
+use Rattle.keys.specs.Slack.{slackAt}
 use Rattle.passes.specs.Search.{foundOf, Searched}
 use Rattle.passes.specs.declared.repeat.Outcome.{Outcome}
 use Rattle.reports.specs.Reports.{reportOf}
-use Rattle.search.specs.Answering.{badSettings, settingsRefusal, badTable, searchRefusal, foundAnswer, answerOf, tableAfter}
+use Rattle.search.specs.Answering.{badSettings, settingsRefusal, badTable, searchRefusal, searchOf, foundAnswer, answerOf, tableAfter}
 use Rattle.search.specs.Spread.{Modelled}
 use Rattle.basics.proofs.Sums.{count-same}
 use Rattle.search.proofs.Modelling.{fair-modelled}

@@ -28,12 +28,12 @@ use Rattle.model.specs.declared.answers.Answer.{Answer}
 use Rattle.refusals.proofs.Order.{or-none}
 use Rattle.model.proofs.Numbering.{packets-length}
 use Rattle.model.proofs.InTime.{packets-in-time}
-use Rattle.order.specs.Order.{slackAt}
-use Rattle.passes.specs.Passes.{Found, searchOf, skippedIn, lowestSkipped}
+use Rattle.passes.specs.Passes.{Found, skippedIn, lowestSkipped}
+use Rattle.keys.specs.Slack.{slackAt}
 use Rattle.passes.proofs.Sound.{Safe}
 use Rattle.passes.proofs.Complete.{search-length, search-safe, complete-passes, skipped-holds}
 use Rattle.reports.specs.Reports.{numberFor, placeFor}
-use Rattle.search.specs.Answering.{settingsRefusal, badTable, searchRefusal, foundAnswer, answerOf, tableAfter}
+use Rattle.search.specs.Answering.{settingsRefusal, badTable, searchRefusal, searchOf, foundAnswer, answerOf, tableAfter}
 use Rattle.basics.proofs.Sums.{count-same}
 use Rattle.search.proofs.Entering.{entry-fair}
 

@@ -11,12 +11,11 @@ use Rattle.packet.specs.Table.{packetAt}
 use Rattle.arrays.specs.Arrays.{packetIn}
 use Rattle.arrays.specs.declared.build.Model.{Model}
 use Rattle.order.specs.Lists.{keyIn}
-use Rattle.order.specs.Order.{slackOf, slackAt}
 use Rattle.passes.specs.Search.{Searched}
 use Rattle.passes.specs.declared.repeat.Outcome.{Outcome}
 use Rattle.basics.specs.Lists.{tabulate}
 use Rattle.basics.proofs.Lists.{tabulate-length, tabulate-at, padded-length, padded-at, padded-past}
-use Rattle.keys.specs.Slack.{slackIn, Keyed, slacksOf}
+use Rattle.keys.specs.Slack.{slackOf, slackAt, slackIn, Keyed, slacksOf}
 use Rattle.search.specs.Spread.{Modelled}
 
 module _ {ps : List Packet} {model : Model} {f g : ℕ} (m : Modelled ps model f g) where

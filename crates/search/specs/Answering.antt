@@ -13,7 +13,8 @@ use Rattle.model.specs.Answers.{refusedBy}
 use Rattle.model.specs.declared.flows.Mesh.{Mesh}
 use Rattle.model.specs.declared.answers.Answer.{Answer}
 use Rattle.model.specs.declared.answers.Refusal.{Refusal}
-use Rattle.passes.specs.Passes.{Found, searchOf, skippedIn, lowestSkipped}
+use Rattle.passes.specs.Passes.{Found, searchBy, skippedIn, lowestSkipped}
+use Rattle.keys.specs.Slack.{slackAt}
 use Rattle.reports.specs.Reports.{numberFor, placeFor}
 
 -- 3: F outside 1 to 65,536 or G outside 1 to 16
@@ -31,6 +32,10 @@ badTable numbers table = ltb (length table) (packetsIn numbers)
 -- the order of the tests: 2, 3, 4; then flow by flow 5, 6, 7; then 8, 9, 10
 unfoldable pub searchRefusal : Mesh → ℕ → ℕ → List ℕ → List ℕ → Refusal
 searchRefusal mesh f g numbers table = orElse (refusalOf mesh (settingsRefusal f g) numbers) (refuseIf (badTable numbers table) 10 0)
+
+-- the search of the document: the list starts in order of least slack
+abbrev pub searchOf : List Packet → ℕ → ℕ → Found
+searchOf ps f g = searchBy (slackAt ps) ps f g
 
 -- 0 and 13 carry H and packets, passes, tries and skipped
 unfoldable pub foundAnswer : List ℕ → List Packet → Found → Answer

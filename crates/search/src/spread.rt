@@ -10,9 +10,9 @@ ghost use Prim.Native.Nat.{ℕ, _<_, _*_};
 ghost use lib.ListN.{length, getD};
 ghost use lib.Seq.{paste};
 ghost use Rattle.packet.specs.Packet.{Packet};
-ghost use Rattle.order.specs.Order.{slackAt};
 ghost use Rattle.passes.specs.Search.{Searched};
 ghost use Rattle.arrays.specs.Arrays.{noPath};
+ghost use Rattle.keys.specs.Slack.{slackAt};
 ghost use Rattle.search.specs.Spread.{Spread, Lens, Modelled};
 
 // The links with those of one more path, in its flow's places.
