@@ -1,10 +1,11 @@
 -- The packets are numbered flow after flow, from 0, k rising within a flow.
 -- In order: the numbers; the list, which grows by one flow at its end, and its length; then that packet k of flow f stands at its
--- number, and that every packet of the list is one of those.
+-- number, that every packet of the list is one of those, and so that flows do not fall.
 use mathlib.Core.Path.{_≡_, refl, sym, _∙_, ap, ap₂}
 use mathlib.Core.List.{List, _++_, append-nil, append-assoc}
-use Prim.Native.Nat.{ℕ, zero, suc, _+_, _-_, _<_}
-use native.Mathlib.Nat.{add-zero, add-suc, suc-add, zero-add}
+use Prim.Native.Nat.{ℕ, zero, suc, _+_, _-_, _≤_, _<_}
+use native.Mathlib.Nat.{add-zero, add-suc, suc-add, zero-add, lt-of-not-le}
+use native.Mathlib.Decide.{decLe}
 use native.Mathlib.Omega.{arith}
 use native.Mathlib.Numerals.{add-one}
 use lib.ListN.{length, length-append, List·getD-append}
@@ -96,3 +97,15 @@ module _ (mesh : Mesh) (numbers : List ℕ) where
       let w = in-part (turnsIn numbers) (flowsIn numbers) p h in
       let own : Numbered numbers p (w .part) (w .offset) = record { flow-in = w .part-in; turn-in = w .offset-in; number = w .number } in
       rw (ap (λ (q : Packet). q .flow) (packet-at own), ap (λ (q : Packet). q .turn) (packet-at own)) own
+
+  -- flows do not fall from one packet to the next
+  pub flows-rise : (p q : ℕ) → p ≤ q → q < packetsIn numbers → packetAt (packetsOf mesh numbers) p .flow ≤ packetAt (packetsOf mesh numbers) q .flow
+  flows-rise p q h k =
+      let low : ℕ = packetAt (packetsOf mesh numbers) p .flow in
+      let high : ℕ = packetAt (packetsOf mesh numbers) q .flow in
+      let a = numbered p (omega arith) in
+      let b = numbered q k in
+      elim (decLe low high) [
+        | yes l ↦ l
+        | no l ↦ absurd (omega (arith, a .number, b .number, b .turn-in, sum-part (turnsIn numbers) high low (lt-of-not-le l)))
+      ]

@@ -7,6 +7,7 @@ use Rattle.routes.specs.declared.paths.Path.{Path}
 use Rattle.hyper.specs.Hyper.{most}
 use Rattle.packet.specs.Packet.{Packet}
 use Rattle.packet.specs.Table.{packetAt}
+use Rattle.order.specs.Grouped.{Grouped}
 use Rattle.arrays.specs.Arrays.{noPath, packetIn}
 use Rattle.arrays.specs.declared.build.Model.{Model}
 
@@ -19,7 +20,7 @@ pub record Spread (paths : List Path) (links : List ℕ) : Type 0 where
 pub record Lens (paths : List Path) (lens : List ℕ) : Type 0 where
   pub lens-at : (g : ℕ) → g < 64 → getD lens g 0 ≡ getD paths g noPath .len
 
--- a model holds a list of packets: each is read off its arrays, in time, and the settings are in their ranges
+-- a model holds a list of packets: each is read off its arrays, in time, flow after flow, and the settings are in their ranges
 pub record Modelled (ps : List Packet) (model : Model) (f g : ℕ) : Type 0 where
   pub few : length ps ≤ 1024
   pub count : model .packets .count ≡ length ps
@@ -27,6 +28,7 @@ pub record Modelled (ps : List Packet) (model : Model) (f g : ℕ) : Type 0 wher
   pub busy : (p : ℕ) → p < length ps → 0 < packetAt ps p .occupancy
   pub fits : (p : ℕ) → p < length ps → packetAt ps p .release + packetAt ps p .occupancy ≤ packetAt ps p .deadline
   pub ends : (p : ℕ) → p < length ps → packetAt ps p .deadline ≤ most
+  pub grouped : Grouped (model .packets .flow) (model .flows .count) (model .packets .count)
   pub flows : (q : ℕ) → q < 1024 → getD (model .packets .flow) q 0 < 64
   pub spans : (q : ℕ) → q < 64 → getD (model .flows .occupancy) q 0 ≤ most
   pub whole : (q : ℕ) → q < 64 → length (getD (model .flows .path) q noPath .links) ≡ 32
