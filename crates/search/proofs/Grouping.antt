@@ -1,4 +1,4 @@
--- The packets of a model that is not refused are numbered flow after flow.
+-- A model that is not refused has slack in each of its flows, and its packets are numbered flow after flow.
 use mathlib.Core.Path.{_≡_}
 use mathlib.Core.List.{List, map}
 use Prim.Native.Nat.{ℕ, _<_}
@@ -13,9 +13,18 @@ use Rattle.model.specs.declared.flows.Mesh.{Mesh}
 use Rattle.model.proofs.Numbering.{packets-length, flows-rise}
 use Rattle.model.proofs.InTime.{packets-in-time}
 use Rattle.arrays.specs.Arrays.{flowsUpTo, arraysOf, modelOf}
-use Rattle.arrays.proofs.Entries.{flow-entry}
+use Rattle.arrays.proofs.Entries.{due-entry, occupancy-entry, flow-entry}
+use Rattle.keys.specs.Slack.{Keyed}
 
 module _ (mesh : Mesh) (numbers : List ℕ) (fair : Fair mesh numbers) where
+  -- no occupancy is above its D
+  pub fair-keyed : Keyed (modelOf mesh numbers)
+  unfolding modelOf flowsUpTo
+  fair-keyed = record {
+    few = fair .list .flows-high;
+    fits = λ g h. omega (arith, due-entry mesh numbers g h, occupancy-entry mesh numbers g h, fair .flows g h .fits);
+  }
+
   -- the packets stand flow after flow
   pub fair-grouped : Grouped (modelOf mesh numbers .packets .flow) (modelOf mesh numbers .flows .count) (modelOf mesh numbers .packets .count)
   unfolding modelOf flowsUpTo arraysOf

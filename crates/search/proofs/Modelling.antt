@@ -29,7 +29,7 @@ use Rattle.stretches.specs.Busy.{pathIn}
 use Rattle.placing.specs.Held.{loadOf, flowAt, Held}
 use Rattle.passes.specs.State.{Ready}
 use Rattle.search.specs.Spread.{Spread, Lens, Modelled}
-use Rattle.search.proofs.Grouping.{fair-grouped}
+use Rattle.search.proofs.Grouping.{fair-keyed, fair-grouped}
 
 -- behind what it was filled with an array holds its filling
 pub padded-past {ℓ} : {X : Type ℓ} (n : ℕ) (fill : X) (xs : List X) (k : ℕ) (d : X) → length xs ≤ k → k < n → getD (padded n fill xs) k d ≡ fill
@@ -106,6 +106,7 @@ module _ (mesh : Mesh) (numbers : List ℕ) (fair : Fair mesh numbers) where
         busy = λ p h. packets-in-time mesh numbers fair p (below p h) .busy;
         fits = λ p h. packets-in-time mesh numbers fair p (below p h) .fits;
         ends = λ p h. packets-in-time mesh numbers fair p (below p h) .deadline-small;
+        keyed = fair-keyed mesh numbers fair;
         grouped = fair-grouped mesh numbers fair;
         flows = flow-small;
         spans = span-small;

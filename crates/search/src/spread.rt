@@ -10,10 +10,11 @@ ghost use Prim.Native.Nat.{ℕ, _<_, _*_};
 ghost use lib.ListN.{length, getD};
 ghost use lib.Seq.{paste};
 ghost use Rattle.packet.specs.Packet.{Packet};
+ghost use Rattle.order.specs.Grouped.{Grouped};
 ghost use Rattle.passes.specs.Search.{Searched};
 ghost use Rattle.arrays.specs.Arrays.{noPath};
 ghost use Rattle.keys.specs.Slack.{slackAt};
-ghost use Rattle.search.specs.Spread.{Spread, Lens, Modelled};
+ghost use Rattle.search.specs.Spread.{Spread, Lens, keysOf, Modelled};
 
 // The links with those of one more path, in its flow's places.
 fn with_path(links: [u16; 2048], f: usize, path: Path) -> [u16; 2048]
@@ -53,6 +54,18 @@ fn lens_of(paths: [Path; 64]) -> [usize; 64]
     lens
 }
 
+// The key of each packet, that of its flow; 0 past them.
+fn keys_of(key: [u64; 1024], flow: [u16; 1024], n: usize) -> [u64; 1024]
+    requires { ⌜ Grouped flow 64 n ⌝ }
+    ensures { λ r. ⌜ r ≡ keysOf key flow n ⌝ }
+{
+    let mut keys = [0u64; 1024];
+    for p in 0..n {
+        keys[p] = key[flow[p] as usize];
+    }
+    keys
+}
+
 // The passes over a model that is not refused.
 pub fn run(model: Model, pruning: u32, threshold: u32) -> Outcome
     requires { ⌜ ((ps : List Packet) × Modelled ps model pruning threshold) ⌝ }
@@ -60,15 +73,16 @@ pub fn run(model: Model, pruning: u32, threshold: u32) -> Outcome
 {
     let key = slacks(model);
     let n = model.packets.count;
+    let flow = model.packets.flow;
+    let keys = keys_of(key, flow, n);
     let paths = model.flows.path;
     let links = links_of(paths);
     let lens = lens_of(paths);
     let occupancy = model.flows.occupancy;
     let due = model.flows.due;
-    let flow = model.packets.flow;
     let release = model.packets.release;
     rounds(
-        &key,
+        &keys,
         n,
         &flow,
         &occupancy,
