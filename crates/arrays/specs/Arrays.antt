@@ -69,8 +69,12 @@ packetIn flows packets p =
       path = linksOf (getD (flows .path) f noPath);
     }
 
+-- all packets, read off the arrays
+unfoldable pub packetsRead : Model → List Packet
+packetsRead model = tabulate (packetIn (model .flows) (model .packets)) 0 (model .packets .count)
+
 -- what code over the arrays asks: packets of its flows, with numbers far below 2 ^ 32 and paths of at most 32 links
-pub record Ready (flows : Flows) (packets : Packets) : Type 0 where
+pub record InBounds (flows : Flows) (packets : Packets) : Type 0 where
   pub few : packets .count ≤ 1024
   pub flow-in : (p : ℕ) → p < packets .count → getD (packets .flow) p 0 < 64
   pub soon : (p : ℕ) → p < packets .count → packetIn flows packets p .deadline ≤ 16777216

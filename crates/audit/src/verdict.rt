@@ -12,7 +12,7 @@ use ranges::first_outside;
 use refusals::refusal;
 ghost use mathlib.Core.Path.{_≡_};
 ghost use Prim.Native.Nat.{_≤_, _<_};
-ghost use Rattle.arrays.specs.Arrays.{Ready};
+ghost use Rattle.arrays.specs.Arrays.{InBounds};
 ghost use Rattle.audit.specs.Check.{collided, passedWith, checkOf};
 ghost use Rattle.audit.specs.Verdict.{verdictIn};
 
@@ -51,7 +51,7 @@ fn passed(hyper: u32, packets: u32) -> Answer
 
 // The check of a table for a model that is not refused: 10, then 11 for all packets, then 12.
 fn verdict(hyper: u32, flows: Flows, packets: Packets, table: &[u32]) -> Answer
-    requires { ⌜ Ready flows packets ⌝ }
+    requires { ⌜ InBounds flows packets ⌝ }
     ensures { λ r. ⌜ r ≡ verdictIn hyper flows packets (now (table .entry)) ⌝ }
 {
     let n = packets.count;

@@ -1,9 +1,9 @@
--- The answer of the sweep follows from its arguments: any two results that its contract allows are equal.
+-- The public function's answer follows from its arguments: any two results that its contract allows are equal.
 use mathlib.Core.Path.{sym, _∙_}
 use Rattle.basics.proofs.Determined.{Determined}
-use Rattle.gaps.proofs.gap.sweep.Reads as sweep
-use Rattle.gaps.proofs.gap.sweep.Kinds as sweep-kinds
+use Rattle.gaps.proofs.gap.gap_for.Reads as gap-for
+use Rattle.gaps.proofs.gap.gap_for.Kinds as gap-for-kinds
 
 -- the first gap
-pub sweep-determined : Determined 7 sweep-kinds.ps sweep-kinds.r sweep.Post
-sweep-determined κs a x y s t p q = p ∙ sym q
+pub gap-for-determined : Determined 7 gap-for-kinds.ps gap-for-kinds.r gap-for.Post
+gap-for-determined κs a x y s t p q = p ∙ sym q

@@ -1,70 +1,77 @@
 -- The sweep: what it knows as it goes, and that where it ends is the first gap.
--- In order: when a stretch is not in the way; what the sweep knows; the three ways on (the stretch is over, shares no link, or is in the
--- way and is jumped past); and the two ends.
+-- In order: when a placed packet is not in the way; what the sweep knows; the three ways on (the placed packet is over, shares no link,
+-- or is in the way and is jumped past); and the two ends.
 use mathlib.Core.Path.{_≡_, refl, sym, _∙_, ap, subst}
 use mathlib.Core.Bool.{Bool, true, false, not}
 use mathlib.Core.List.{List}
 use Prim.Native.Nat.{ℕ, _+_, _-_, _*_, _/_, _≤_, _<_}
-use native.Mathlib.Nat.{lt-of-not-le, div-mul-le-self, mul-le-mul-right, add-mul, le-mul-of-pos-right, lt-div-mul-add}
+use native.Mathlib.Nat.{lt-of-not-le, div-mul-le-self, mul-le-mul-right, add-mul, lt-div-mul-add, mul-div-cancel, le-div-iff-mul-le, div-lt-iff-lt-mul}
 use native.Mathlib.Decide.{decLe}
 use native.Mathlib.Omega.{arith}
-use lib.Dec.{ltb}
 use borrow.Author.Tests.{lt-ltb, le-ltb}
 use Rattle.basics.specs.Choose.{both}
 use Rattle.basics.specs.First.{first, some}
 use Rattle.basics.proofs.Choose.{both-pass, both-not}
 use Rattle.basics.proofs.First.{first-is, first-none, some-at, some-none}
 use Rattle.routes.specs.Share.{shares}
-use Rattle.stretches.specs.Busy.{pathIn, Busy, startOf, endOf, flowOf, Kept}
-use Rattle.gaps.specs.Gaps.{hits, firstGap, gapAt, Sweep}
+use Rattle.time.specs.Window.{overlaps}
+use Rattle.time.proofs.Windows.{overlaps-at, before-apart, overlaps-swap}
+use Rattle.kept.specs.Load.{Load, spanOf, pathFor}
+use Rattle.kept.specs.Kept.{startOf, Kept}
+use Rattle.gaps.specs.Gaps.{flowOf, hits, slotsTo, firstGap, gapAt, placedIn, Sweep}
+use Rattle.gaps.specs.Sweeps.{timePast, EndAhead}
 use Rattle.gaps.specs.declared.gap.Placed.the-variants.{At, Nowhere}
 
--- ---- one stretch
+-- ---- one placed packet
 
-module _ (lens links : List ℕ) (b : Busy) (g span j : ℕ) where
+module _ (load : Load) (by times : List ℕ) (g j : ℕ) where
+  -- its end
+  abbrev pub endAt : ℕ
+  endAt = startOf by times j + spanOf load (flowOf load by j)
+
+  -- whether its path shares a link with that of flow g
+  abbrev pub sharing : Bool
+  sharing = shares (pathFor load g) (pathFor load (flowOf load by j))
+
   -- it is over
-  over-misses : (t : ℕ) → endOf b j ≤ t → hits lens links b g span t j ≡ false
+  over-misses : (t : ℕ) → endAt ≤ t → hits load by times g t j ≡ false
   unfolding hits
-  over-misses t h = rw (le-ltb t (endOf b j) h) refl
+  over-misses t h =
+      ap (λ (o : Bool). both o sharing)
+      (overlaps-swap t (spanOf load g) (startOf by times j) (spanOf load (flowOf load by j)) ∙ before-apart (startOf by times j) _ t (spanOf load g) h)
 
   -- it starts when the packet is over
-  later-misses : (t : ℕ) → t + span ≤ startOf b j → hits lens links b g span t j ≡ false
+  later-misses : (t : ℕ) → t + spanOf load g ≤ startOf by times j → hits load by times g t j ≡ false
   unfolding hits
-  later-misses t h =
-      ap (λ (overlapping : Bool). both overlapping (shares (pathIn lens links g) (pathIn lens links (flowOf b j))))
-      (both-not (ltb t (endOf b j)) _ (le-ltb (startOf b j) (t + span) h))
+  later-misses t h = ap (λ (o : Bool). both o sharing) (before-apart t (spanOf load g) (startOf by times j) (spanOf load (flowOf load by j)) h)
 
   -- it shares no link
-  apart-misses : (t : ℕ) → shares (pathIn lens links g) (pathIn lens links (flowOf b j)) ≡ false
-      → hits lens links b g span t j ≡ false
+  apart-misses : (t : ℕ) → sharing ≡ false → hits load by times g t j ≡ false
   unfolding hits
-  apart-misses t h = both-not (both (ltb t (endOf b j)) (ltb (startOf b j) (t + span))) _ h
+  apart-misses t h = both-not (overlaps t (spanOf load g) (startOf by times j) (spanOf load (flowOf load by j))) _ h
 
   -- it shares a link and neither is over before the other starts
-  meets-hits : (t : ℕ) → shares (pathIn lens links g) (pathIn lens links (flowOf b j)) ≡ true
-      → t < endOf b j → startOf b j < t + span
-      → hits lens links b g span t j ≡ true
+  meets-hits : (t : ℕ) → sharing ≡ true → t < endAt → startOf by times j < t + spanOf load g → hits load by times g t j ≡ true
   unfolding hits
-  meets-hits t h k l = both-pass _ _ (both-pass _ _ (lt-ltb t _ k) (lt-ltb (startOf b j) _ l)) h
+  meets-hits t h k l = both-pass _ _ (overlaps-at t (spanOf load g) (startOf by times j) (spanOf load (flowOf load by j)) k l) h
 
 -- ---- the sweep
 
--- number k of the stretches is next, at time i, which is t: at no time before is there a gap, and no stretch before k
--- is in the way from t on
-pub record Sweeping (lens links : List ℕ) (b : Busy) (g span f begin k i t : ℕ) : Type 0 where
-  pub within : k ≤ b .count
-  pub grid : t ≡ begin + i * f
+-- number k of the placed packets is next, at time i, which is t: at no time before is there a gap, and no placed packet before k is in
+-- the way from t on
+pub record Sweeping (load : Load) (by : List ℕ) (count : ℕ) (times : List ℕ) (g f begin k t : ℕ) : Type 0 where
+  pub within : k ≤ count
   pub small : t ≤ 50331648
-  pub fits : i ≤ t
-  pub blocked : (m : ℕ) → m < i → some (hits lens links b g span (begin + m * f)) (b .count) ≡ true
-  pub passed : (j : ℕ) → j < k → (s : ℕ) → t ≤ s → hits lens links b g span s j ≡ false
+  pub i : ℕ
+  pub grid : t ≡ begin + i * f
+  pub blocked : (m : ℕ) → m < i → some (hits load by times g (begin + m * f)) count ≡ true
+  pub passed : (j : ℕ) → j < k → (s : ℕ) → t ≤ s → hits load by times g s j ≡ false
 
 -- how far a jump goes: at least up to the end, and each step before it falls short
 pub record Jump (f gap steps : ℕ) : Type 0 where
   pub reaches : gap ≤ steps * f
   pub short : (d : ℕ) → d < steps → d * f < gap
   pub tight : steps * f ≤ gap + f - 1
-  pub some-steps : steps ≤ steps * f
 
 -- the steps that the code takes are such a jump
 pub jump : (f gap : ℕ) → 0 < f → 0 < gap → Jump f gap ((gap + f - 1) / f)
@@ -78,110 +85,118 @@ jump f gap h k =
           let e : (d + 1) * f ≡ d * f + 1 * f = add-mul d 1 f in
           omega arith;
       tight = low;
-      some-steps = le-mul-of-pos-right n h;
     }
+
+-- it does not go back
+pub past-after : {t end f : ℕ} → EndAhead t end f → t ≤ timePast t end f
+unfolding timePast
+past-after past = omega arith
 
 -- a step further on the grid
 grid-add : (begin f i d : ℕ) → begin + (i + d) * f ≡ begin + i * f + d * f
 grid-add begin f i d = omega (arith, add-mul i d f)
 
-module _ {lens links : List ℕ} {b : Busy} {g span f begin : ℕ} where
+module _ {load : Load} {by : List ℕ} {count : ℕ} {times : List ℕ} {g f begin : ℕ} where
   -- it starts
-  pub sweep-start : {marks : List ℕ} {at : ℕ} → Sweep lens links marks b g span f begin at → Sweeping lens links b g span f begin at 0 begin
+  pub sweep-start : {marks : List ℕ} {latest at : ℕ} → Sweep load marks by count times g f begin latest at → Sweeping load by count times g f begin at begin
   sweep-start s = record {
     within = s .within;
+    small = omega (arith, s .order, s .soon);
+    i = 0;
     grid = omega arith;
-    small = omega (arith, s .soon);
-    fits = omega arith;
     blocked = λ m h. absurd (omega arith);
-    passed = λ j h t l. over-misses lens links b g span j t (omega (arith, s .over j h));
+    passed = λ j h t l. over-misses load by times g j t (omega (arith, s .over j h));
   }
 
-  module _ {k i t : ℕ} (s : Sweeping lens links b g span f begin k i t) where
+  module _ {k t : ℕ} (s : Sweeping load by count times g f begin k t) where
     -- what is passed at a later time, with one more that is not in the way from then on
-    passed-more : (u : ℕ) → t ≤ u → ((v : ℕ) → u ≤ v → hits lens links b g span v k ≡ false)
-        → (j : ℕ) → j < k + 1 → (v : ℕ) → u ≤ v → hits lens links b g span v j ≡ false
+    passed-more : (u : ℕ) → t ≤ u → ((v : ℕ) → u ≤ v → hits load by times g v k ≡ false)
+        → (j : ℕ) → j < k + 1 → (v : ℕ) → u ≤ v → hits load by times g v j ≡ false
     passed-more u h miss j l v m =
         elim (decLe k j) [
-          | yes a ↦ let e : k ≡ j = omega arith in subst (λ (n : ℕ). hits lens links b g span v n ≡ false) e (miss v m)
+          | yes a ↦ let e : k ≡ j = omega arith in subst (λ (n : ℕ). hits load by times g v n ≡ false) e (miss v m)
           | no a ↦ s .passed j (lt-of-not-le a) v (omega arith)
         ]
 
     -- the next is not in the way from t on
-    sweep-on : k < b .count → ((v : ℕ) → t ≤ v → hits lens links b g span v k ≡ false) → Sweeping lens links b g span f begin (k + 1) i t
+    sweep-on : k < count → ((v : ℕ) → t ≤ v → hits load by times g v k ≡ false) → Sweeping load by count times g f begin (k + 1) t
     sweep-on h miss = record {
       within = omega arith;
-      grid = s .grid;
       small = s .small;
-      fits = s .fits;
+      i = s .i;
+      grid = s .grid;
       blocked = s .blocked;
       passed = passed-more t (omega arith) miss;
     }
 
     -- the next is over
-    pub sweep-over : k < b .count → endOf b k ≤ t
-        → Sweeping lens links b g span f begin (k + 1) i t
-    sweep-over h o = sweep-on h (λ v l. over-misses lens links b g span k v (omega arith))
+    pub sweep-over : k < count → endAt load by times g k ≤ t → Sweeping load by count times g f begin (k + 1) t
+    sweep-over h o = sweep-on h (λ v l. over-misses load by times g k v (omega arith))
 
     -- the next shares no link
-    pub sweep-apart : k < b .count → shares (pathIn lens links g) (pathIn lens links (flowOf b k)) ≡ false
-        → Sweeping lens links b g span f begin (k + 1) i t
-    sweep-apart h a = sweep-on h (λ v l. apart-misses lens links b g span k v a)
+    pub sweep-apart : k < count → sharing load by times g k ≡ false → Sweeping load by count times g f begin (k + 1) t
+    sweep-apart h a = sweep-on h (λ v l. apart-misses load by times g k v a)
 
     -- the next is in the way: every time before its end is blocked, and from there on it is over
-    pub sweep-jump : k < b .count → shares (pathIn lens links g) (pathIn lens links (flowOf b k)) ≡ true
-        → (end steps : ℕ) → end ≡ endOf b k → t < end
-        → startOf b k < t + span → end ≤ 33554432 → f ≤ 65536 → Jump f (end - t) steps
-        → Sweeping lens links b g span f begin (k + 1) (i + steps) (t + steps * f)
-    sweep-jump h meets end steps e before starts soon small j = record {
-      within = omega arith;
-      grid = omega (arith, s .grid, grid-add begin f i steps);
-      small = omega (arith, j .tight);
-      fits = omega (arith, s .fits, j .some-steps);
-      blocked = λ m l.
-          elim (decLe i m) [
-            | no a ↦ s .blocked m (lt-of-not-le a)
-            | yes a ↦
-                let d : i + (m - i) ≡ m = omega arith in
-                let at : begin + m * f ≡ t + (m - i) * f =
-                ap (λ (n : ℕ). begin + n * f) (sym d) ∙ grid-add begin f i (m - i) ∙ ap (λ (n : ℕ). n + (m - i) * f) (sym (s .grid)) in
-                let near : (m - i) * f < end - t = j .short (m - i) (omega arith) in
-                some-at _ (b .count) k h (meets-hits lens links b g span k (begin + m * f) meets (omega arith) (omega arith))
-          ];
-      passed = passed-more (t + steps * f) (omega arith) (λ v l. over-misses lens links b g span k v (omega (arith, j .reaches)));
-    }
+    pub sweep-jump : k < count → sharing load by times g k ≡ true → startOf by times k < t + spanOf load g
+        → {end : ℕ} → end ≡ endAt load by times g k → EndAhead t end f → Sweeping load by count times g f begin (k + 1) (timePast t end f)
+    unfolding timePast
+    sweep-jump h meets starts {end} e past =
+        let steps : ℕ = (end - t + f - 1) / f in
+        let j : Jump f (end - t) steps = jump f (end - t) (past .some-step) (omega (arith, past .before)) in
+        record {
+          within = omega arith;
+          small = omega (arith, j .tight, past .soon, past .small-step, past .before);
+          i = s .i + steps;
+          grid = omega (arith, s .grid, grid-add begin f (s .i) steps);
+          blocked = λ m l.
+              elim (decLe (s .i) m) [
+                | no a ↦ s .blocked m (lt-of-not-le a)
+                | yes a ↦
+                    let d : s .i + (m - s .i) ≡ m = omega arith in
+                    let at : begin + m * f ≡ t + (m - s .i) * f =
+                    ap (λ (n : ℕ). begin + n * f) (sym d) ∙ grid-add begin f (s .i) (m - s .i) ∙ ap (λ (n : ℕ). n + (m - s .i) * f) (sym (s .grid)) in
+                    let near : (m - s .i) * f < end - t = j .short (m - s .i) (omega arith) in
+                    some-at _ count k h (meets-hits load by times g k (begin + m * f) meets (omega arith) (omega arith))
+              ];
+          passed = passed-more (t + steps * f) (omega arith) (λ v l. over-misses load by times g k v (omega (arith, j .reaches)));
+        }
 
     -- ---- the two ends
 
-    -- no stretch is in the way: time i is the first gap
-    sweep-gap : (slots : ℕ) → i < slots → ((j : ℕ) → k ≤ j → j < b .count → hits lens links b g span t j ≡ false)
-        → At t (i + 1) ≡ gapAt f begin slots (firstGap lens links b g span f begin slots)
-    unfolding firstGap gapAt
-    sweep-gap slots h none =
-        let clear : some (hits lens links b g span (begin + i * f)) (b .count) ≡ false =
-        some-none _ (b .count) (λ j l.
+    -- no placed packet is in the way: the time is the first gap
+    sweep-gap : 0 < f → (latest : ℕ) → t ≤ latest → ((j : ℕ) → k ≤ j → j < count → hits load by times g t j ≡ false)
+        → At t (slotsTo f begin t) ≡ placedIn load by count times g f begin latest
+    unfolding placedIn firstGap gapAt slotsTo
+    sweep-gap some-step latest h none =
+        let clear : some (hits load by times g (begin + s .i * f)) count ≡ false =
+        some-none _ count (λ j l.
         elim (decLe k j) [
           | yes a ↦ rw (sym (s .grid)) (none j a l)
           | no a ↦ rw (sym (s .grid)) (s .passed j (lt-of-not-le a) t (omega arith))
         ]) in
-        let is : first (λ m. not (some (hits lens links b g span (begin + m * f)) (b .count))) slots ≡ i =
-        first-is _ slots i h (ap not clear) (λ m l. ap not (s .blocked m l)) in
-        rw (is, lt-ltb i slots h) (ap (λ (n : ℕ). At n (i + 1)) (s .grid))
+        let below : s .i ≤ (latest - begin) / f = le-div-iff-mul-le some-step .1 (omega (arith, s .grid)) in
+        let here : s .i < (latest - begin) / f + 1 = omega arith in
+        let is : first (λ m. not (some (hits load by times g (begin + m * f)) count)) ((latest - begin) / f + 1) ≡ s .i =
+        first-is _ _ (s .i) here (ap not clear) (λ m l. ap not (s .blocked m l)) in
+        let tried : (t - begin) / f ≡ s .i = ap (λ (n : ℕ). n / f) (omega (arith, s .grid)) ∙ mul-div-cancel (s .i) some-step in
+        rw (is, lt-ltb (s .i) ((latest - begin) / f + 1) here, tried) (ap (λ (n : ℕ). At n (s .i + 1)) (s .grid))
 
-    -- all stretches are passed
-    pub sweep-clear : (slots : ℕ) → i < slots → b .count ≤ k → At t (i + 1) ≡ gapAt f begin slots (firstGap lens links b g span f begin slots)
-    sweep-clear slots h l = sweep-gap slots h (λ j a b. absurd (omega arith))
+    -- all placed packets are passed
+    pub sweep-clear : 0 < f → (latest : ℕ) → t ≤ latest → count ≤ k → At t (slotsTo f begin t) ≡ placedIn load by count times g f begin latest
+    sweep-clear some-step latest h l = sweep-gap some-step latest h (λ j a b. absurd (omega arith))
 
     -- the next starts when the packet is over, and so do all after it
-    pub sweep-early : (slots : ℕ) → i < slots → Kept b → t + span ≤ startOf b k
-        → At t (i + 1) ≡ gapAt f begin slots (firstGap lens links b g span f begin slots)
-    sweep-early slots h kept l =
-        sweep-gap slots h (λ j a n. let r = kept .order .rising k j a n in later-misses lens links b g span j t (omega arith))
+    pub sweep-early : 0 < f → (latest : ℕ) → t ≤ latest → Kept by count times → t + spanOf load g ≤ startOf by times k
+        → At t (slotsTo f begin t) ≡ placedIn load by count times g f begin latest
+    sweep-early some-step latest h kept l =
+        sweep-gap some-step latest h (λ j a n. let r = kept .rising k j a n in later-misses load by times g j t (omega arith))
 
-    -- every time was tried
-    pub sweep-none : (slots : ℕ) → slots ≤ i → Nowhere slots ≡ gapAt f begin slots (firstGap lens links b g span f begin slots)
-    unfolding firstGap gapAt
-    sweep-none slots h =
-        let is : first (λ m. not (some (hits lens links b g span (begin + m * f)) (b .count))) slots ≡ slots =
-        first-none _ slots (λ m l. ap not (s .blocked m (omega arith))) in
-        rw (is, le-ltb slots slots (omega arith)) refl
+    -- the latest start is past
+    pub sweep-none : 0 < f → (latest : ℕ) → begin ≤ latest → latest < t → Nowhere (slotsTo f begin latest) ≡ placedIn load by count times g f begin latest
+    unfolding placedIn firstGap gapAt slotsTo
+    sweep-none some-step latest order h =
+        let past : (latest - begin) / f < s .i = div-lt-iff-lt-mul some-step .1 (omega (arith, s .grid)) in
+        let is : first (λ m. not (some (hits load by times g (begin + m * f)) count)) ((latest - begin) / f + 1) ≡ (latest - begin) / f + 1 =
+        first-none _ _ (λ m l. ap not (s .blocked m (omega arith))) in
+        rw (is, le-ltb ((latest - begin) / f + 1) ((latest - begin) / f + 1) (omega arith)) refl

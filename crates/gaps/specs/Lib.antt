@@ -1,2 +1,3 @@
--- The gaps among the busy stretches.
+-- The gaps among the placed packets.
 pub mod Gaps
+pub mod Sweeps

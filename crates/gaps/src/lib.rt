@@ -1,5 +1,6 @@
-// The gaps among the busy stretches: the first gap for a packet.
+// The first gap for a packet among those placed.
 mod gap;
 
+pub use gap::Gap;
 pub use gap::Placed;
-pub use gap::sweep;
+pub use gap::gap_for;

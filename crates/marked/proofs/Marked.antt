@@ -23,7 +23,7 @@ use Rattle.placing.specs.Placing.{inTheWay, free, timeOf, slotsOf, takenOf, pla
 use Rattle.order.specs.Order.{insert, sorted}
 use Rattle.settling.specs.Settling.{raised}
 use Rattle.passes.specs.Pass.{passFrom, passOver}
-use Rattle.passes.specs.Passes.{passesFrom, ceiling, searchBy, skippedIn, lowestSkipped}
+use Rattle.passes.specs.Passes.{passesFrom, ceiling, searchFrom, skippedIn, lowestSkipped}
 use Rattle.keys.specs.Slack.{slackOf, slackAt}
 use Rattle.reports.specs.Reports.{numberFor, placeFor}
 use Rattle.search.specs.Answering.{badSettings, settingsRefusal, badTable, searchRefusal, foundAnswer, answerOf, tableAfter}
@@ -32,5 +32,5 @@ use Rattle.marked.specs.Examples.{Example, occupancyAt, onOneLink, meshA
 
 -- every marked example gives what the document says
 pub marked : map (λ (e : Example). e .gives) examples ≡ map (λ (e : Example). e .says) examples
-unfolding firstFrom first some tabulate sumOf countOf placeOf nodeAt apart distanceOf linkOf steps stepOf endOf towards leg alongRow alongColumn corner routeOf has shares flitsOf occupancyOf turnsOf latestOf overlaps gcdF gcdOf lcmOf lcmWith hyperOf mayStart collide packetAt timeAt outside meets meetsHigher numberOf sourceOf targetOf periodOf sizeOf dueOf flowsIn linksOfFlow occupancyIn periodsOf hyperIn turnsIn packetsIn packetOf packetsFrom packetsOf outOfRange badMesh badList badNodes badTimes tooLong badHyper badPackets refuseIf orElse flowRefusal badFlow flowsRefusal sumsRefusal refusalOf refusedBy placed inTheWay free timeOf slotsOf takenOf placedBy placingOf insert sorted slackOf slackAt raised passFrom passOver passesFrom ceiling searchBy skippedIn lowestSkipped badSettings settingsRefusal badTable searchRefusal numberFor placeFor foundAnswer answerOf tableAfter tooShort checkRefusal collided passedWith firstMeeting verdictOf checkOf occupancyAt onOneLink meshA flowsA inShort inFull examples
+unfolding firstFrom first some tabulate sumOf countOf placeOf nodeAt apart distanceOf linkOf steps stepOf endOf towards leg alongRow alongColumn corner routeOf has shares flitsOf occupancyOf turnsOf latestOf overlaps gcdF gcdOf lcmOf lcmWith hyperOf mayStart collide packetAt timeAt outside meets meetsHigher numberOf sourceOf targetOf periodOf sizeOf dueOf flowsIn linksOfFlow occupancyIn periodsOf hyperIn turnsIn packetsIn packetOf packetsFrom packetsOf outOfRange badMesh badList badNodes badTimes tooLong badHyper badPackets refuseIf orElse flowRefusal badFlow flowsRefusal sumsRefusal refusalOf refusedBy placed inTheWay free timeOf slotsOf takenOf placedBy placingOf insert sorted slackOf slackAt raised passFrom passOver passesFrom ceiling searchFrom skippedIn lowestSkipped badSettings settingsRefusal badTable searchRefusal numberFor placeFor foundAnswer answerOf tableAfter tooShort checkRefusal collided passedWith firstMeeting verdictOf checkOf occupancyAt onOneLink meshA flowsA inShort inFull examples
 marked = refl

@@ -1,5 +1,5 @@
 // Marks of the links of a path.
 mod marks;
 
-pub use marks::marked_on;
+pub use marks::has_mark;
 pub use marks::stamp;

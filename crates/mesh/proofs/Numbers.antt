@@ -1,11 +1,14 @@
--- Numbers of nodes and links: each way round, and where a link of a place ends.
+-- Numbers of nodes and links: each way round, where a link of a place ends, and how high they are.
 use mathlib.Core.Path.{_≡_, _∙_, ap, ap₂}
-use Prim.Native.Nat.{ℕ, zero, suc, _<_}
-use native.Mathlib.Nat.{add-zero, div-add-mod'}
+use mathlib.Core.Bool.{true}
+use Prim.Native.Nat.{ℕ, zero, suc, _*_, _/_, _≤_, _<_}
+use native.Mathlib.Nat.{add-zero, div-add-mod', mul-le-mul}
 use native.Mathlib.Omega.{arith}
 use lib.Arith.{digits-div, digits-mod}
+use borrow.Author.Tests.{ltb-true}
+use Rattle.basics.proofs.Choose.{both-first}
 use Rattle.mesh.specs.Node.{placeOf, nodeAt}
-use Rattle.mesh.specs.Link.{linkOf, nodeOf, kindOf, steps, stepOf, endOf, endNode}
+use Rattle.mesh.specs.Link.{linkOf, allLinks, nodeOf, kindOf, steps, stepOf, endOf, endNode, exists}
 use Rattle.mesh.specs.declared.nodes.Place.{Place}
 
 -- two places with the same column and the same row are the same
@@ -51,3 +54,11 @@ unfolding steps stepOf endOf
 still-end zero at h = at-place (add-zero (at .column)) (add-zero (at .row))
 still-end (suc zero) at h = at-place (add-zero (at .column)) (add-zero (at .row))
 still-end (suc (suc kind)) at h = absurd (omega arith)
+
+-- the number of a link that exists in a mesh of at most 16 columns and 16 rows
+pub exists-number : (columns rows link : ℕ) → columns ≤ 16 → rows ≤ 16 → exists columns rows link ≡ true → link < allLinks
+unfolding exists nodeOf
+exists-number columns rows link h k e =
+    let node = ltb-true (link / 6) (columns * rows) (both-first _ _ e) in
+    let area : columns * rows ≤ 16 * 16 = mul-le-mul h k in
+    omega arith

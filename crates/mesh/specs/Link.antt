@@ -15,6 +15,10 @@ use Rattle.mesh.specs.declared.links.Step.{Step}
 unfoldable pub linkOf : ℕ → ℕ → ℕ
 linkOf node kind = 6 * node + kind
 
+-- every link's number is below this: 6 for each of 16 × 16 nodes
+abbrev pub allLinks : ℕ
+allLinks = 1536
+
 -- the node at which a link begins
 unfoldable pub nodeOf : ℕ → ℕ
 nodeOf link = link / 6

@@ -2,6 +2,7 @@
 mod links;
 mod nodes;
 
+pub use links::ALL_LINKS;
 pub use links::end_of;
 pub use links::link_of;
 pub use nodes::Place;

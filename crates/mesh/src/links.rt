@@ -21,6 +21,9 @@ const STEP: [Step; 6] = [
     Step { column: 0, row: -1 },
 ];
 
+// Every link's number is below this: 6 for each of 16 × 16 nodes.
+pub const ALL_LINKS: usize = 1536;
+
 // A link's number.
 pub fn link_of(node: usize, kind: usize) -> u16
     requires { ⌜ (node < 256) × (kind < 6) ⌝ }

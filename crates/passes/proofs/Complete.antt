@@ -5,8 +5,8 @@ use mathlib.Core.List.{List, []}
 use Prim.Native.Nat.{ℕ, zero, suc, _+_, _<_}
 use native.Mathlib.Decide.{ℕ-discrete}
 use native.Mathlib.Omega.{arith}
-use lib.ListN.{length, getD, replicate, length-set, length-replicate}
-use borrow.Author.Tests.{not-false, eqb-true}
+use lib.ListN.{length, replicate, length-set, length-replicate}
+use borrow.Author.Tests.{not-false}
 use Rattle.basics.specs.Choose.{asNumber}
 use Rattle.basics.specs.Sums.{sumOf, countOf}
 use Rattle.basics.proofs.Choose.{not-passing}
@@ -17,7 +17,7 @@ use Rattle.packet.proofs.Table.{start-inside, meets-higher, meets-collide, pass
 use Rattle.order.specs.Order.{sorted}
 use Rattle.order.proofs.Ordering.{sorted-below}
 use Rattle.passes.specs.Pass.{passFrom, passOver}
-use Rattle.passes.specs.Passes.{passesFrom, ceiling, searchBy, skippedIn}
+use Rattle.passes.specs.Passes.{passesFrom, ceiling, searchFrom, searchBy, skippedIn}
 use Rattle.passes.proofs.Along.{along}
 use Rattle.passes.proofs.Fuel.{spent-none, over-each, passes-end, passes-on, fuel-same}
 use Rattle.passes.proofs.Sound.{Fitting, Safe, safe-start, safe-more}
@@ -72,7 +72,7 @@ module _ (key : ℕ → ℕ) (ps : List Packet) (f g : ℕ) where
   -- more fuel changes nothing: the bound on the passes is never what ends the search
   pub more-fuel : (extra : ℕ)
       → passesFrom (ceiling (length ps) g + extra) ps f g (sorted key 0 (length ps)) (replicate (length ps) 0) 0 0 ≡ searchBy key ps f g
-  unfolding searchBy ceiling
+  unfolding searchFrom ceiling
   more-fuel extra =
       fuel-same ps f g (ceiling (length ps) g + extra) (ceiling (length ps) g) (sorted key 0 (length ps)) (replicate (length ps) 0) 0 0
       (list-start key ps) (length-replicate {A = ℕ} (length ps) 0)
@@ -80,7 +80,7 @@ module _ (key : ℕ → ℕ) (ps : List Packet) (f g : ℕ) where
 
   module _ (fitting : Fitting ps) where
     good : Good ps (searchBy key ps f g .table)
-    unfolding searchBy
+    unfolding searchFrom
     good = passes-good ps f g fitting (ceiling (length ps) g) (sorted key 0 (length ps)) (replicate (length ps) 0) 0 0 (list-start key ps)
 
     -- the table has as many places as there are packets
@@ -106,11 +106,6 @@ count-zero test (suc n) e q h =
     zero-false : (b : Bool) → asNumber b ≡ 0 → b ≡ false
     zero-false true z = absurd (omega arith)
     zero-false false z = refl
-
--- a place that holds no time holds 4,294,967,295
-pub skipped-holds : (table : List ℕ) (q : ℕ) → placed table q ≡ false → getD table q none ≡ none
-unfolding placed
-skipped-holds table q e = eqb-true (getD table q none) none (not-false _ e)
 
 -- in a sound table in which every packet is placed, the check passes
 pub complete-passes : (ps : List Packet) (table : List ℕ) → Safe ps table → skippedIn ps table ≡ 0 → passes ps table ≡ true

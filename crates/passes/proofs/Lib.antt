@@ -10,4 +10,5 @@ pub mod Start
 pub mod Searching
 pub mod Sound
 pub mod Complete
+pub mod Alike
 pub mod Determined

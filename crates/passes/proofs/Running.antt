@@ -1,20 +1,33 @@
 -- A whole pass: it starts with nothing placed, each step leaves what the pass leaves as it was, and its two ends.
 use mathlib.Core.Path.{_≡_, refl, sym, _∙_, ap, ap₂}
-use mathlib.Core.Bool.{true, false, false≢true}
+use mathlib.Core.Bool.{Bool, true, false, false≢true}
 use mathlib.Core.List.{List, _∷_}
-use Prim.Native.Nat.{ℕ, zero, suc, _≤_, _<_}
-use native.Mathlib.Nat.{lt-of-not-le, le-of-suc-le-suc}
-use native.Mathlib.Decide.{decLe}
+use Prim.Native.Nat.{ℕ, zero, suc, _+_, _≤_, _<_}
+use native.Mathlib.Nat.{le-of-suc-le-suc}
 use native.Mathlib.Omega.{arith}
-use lib.ListN.{length, take, replicate, length-replicate, getD-replicate, List·getD-eq-default}
+use lib.ListN.{length, getD, set, take, replicate, length-replicate}
 use lib.Seq.{slice, slice-empty}
 use Rattle.packet.specs.Packet.{Packet}
 use Rattle.packet.specs.Table.{none, placed}
-use Rattle.stretches.specs.Busy.{busyOf}
-use Rattle.placing.specs.Held.{Load}
+use Rattle.packet.proofs.Placed.{nothing-placed}
+use Rattle.order.specs.Lists.{shifted}
+use Rattle.mesh.specs.Link.{allLinks}
+use Rattle.kept.specs.Load.{flowAt}
+use Rattle.marks.specs.Marks.{stamped, Honest}
+use Rattle.marks.proofs.Marking.{honest-start, honest-stamped}
+use Rattle.gaps.specs.declared.gap.Gap.{Gap}
+use Rattle.gaps.specs.declared.gap.Placed.the-variants.{At, Nowhere}
+use Rattle.placing.specs.Held.{placeIn}
+use Rattle.placing.specs.Traffic.{loadIn, packetsHeld}
+use Rattle.placing.specs.declared.traffic.Traffic.{Traffic}
+use Rattle.placing.proofs.Bridging.{place-spot, packets-count, held-in}
+use Rattle.settling.specs.Settling.{turnedAway}
+use Rattle.settling.specs.declared.taking.State.{State}
+use Rattle.settling.specs.declared.taking.Turned.{Turned}
 use Rattle.passes.specs.Pass.{passFrom, passOver}
-use Rattle.passes.specs.State.{State, outcome, passedOf, Ready, Carried, Going, Stepped, Ran}
-use Rattle.passes.proofs.Stepping.{outcome-on}
+use Rattle.passes.specs.Stand.{listOf, failsOf, Stand, standOf, outcome, passedOf, Ready, Carried, Going, Runs, Ran}
+use Rattle.passes.proofs.Stepping.{nextOf, next-in, placing, tries-few, placed-outcome, placed-going}
+use Rattle.passes.proofs.Failing.{all-few, broken-outcome, broken-carries, skipped-outcome, skipped-going}
 
 -- the front of a list of one value
 pub take-replicate : (n m x : ℕ) → n ≤ m → take n (replicate m x) ≡ replicate n x
@@ -22,121 +35,139 @@ take-replicate zero m x h = refl
 take-replicate (suc n) zero x h = absurd (omega arith)
 take-replicate (suc n) (suc m) x h = ap (λ (l : List ℕ). x ∷ l) (take-replicate n m x (le-of-suc-le-suc h))
 
--- in a table that holds no time nothing is placed
-pub nothing-placed : (n q : ℕ) → placed (replicate n none) q ≡ false
-unfolding placed
-nothing-placed n q =
-    elim (decLe n q) [
-      | yes a ↦ rw (List·getD-eq-default (replicate n none) none {n = q} (omega (arith, length-replicate n none))) refl
-      | no a ↦ rw (getD-replicate n q none none (lt-of-not-le a)) refl
-    ]
+-- what a pass knows as it goes: it leaves what the definition says, and no mark lies
+pub record Running (t : Traffic) (f g : ℕ) (start : State) (n longest : ℕ) (marks : List ℕ) (s : Stand) : Type 0 where
+  pub ready : Ready t f g
+  pub n-is : n ≡ length (packetsHeld t)
+  pub longest-is : longest ≡ t .longest
+  pub honest : Honest (t .lens) (t .links) marks
+  pub going : Going (packetsHeld t) g s
+  pub same : outcome (packetsHeld t) f g s ≡ passOver (packetsHeld t) f g (listOf (length (packetsHeld t)) start) (failsOf (length (packetsHeld t)) start)
 
--- what a pass knows as it goes: for all packets that the arrays hold, it goes on, and leaves what the definition says
-pub record Running (load : Load) (release due : List ℕ) (f g : ℕ) (order fails : List ℕ) (base n : ℕ) (s : State) : Type 0 where
-  pub goes : (ps : List Packet) → Ready ps load release due f g → Carried ps g order fails base → n ≡ length ps → Going ps (load .lens) (load .links) g s
-  pub same : (ps : List Packet) → Ready ps load release due f g → Carried ps g order fails base → n ≡ length ps
-      → outcome ps f g s ≡ passOver ps f g (slice base (length ps) order) (take (length ps) fails)
-
-module _ {load : Load} {release due : List ℕ} {f g : ℕ} {order fails : List ℕ} {base n : ℕ} where
-  -- it starts
-  pub running-start : {times by from until who : List ℕ} → times ≡ replicate 1024 none → length times ≡ 1024 → length by ≡ 1024
-      → length from ≡ 1024 → length until ≡ 1024 → length who ≡ 1024
-      → Running load release due f g order fails base n record {
-        order = order;
-        fails = fails;
-        times = times;
-        busy = busyOf by from until who 0 0;
-        base = base;
-        at = base;
-        tries = 0;
-        again = false;
-      }
-  unfolding outcome passOver
-  running-start {times} e times-long by-long from-long until-long who-long = record {
-    goes = λ ps ready carried count.
-        let table : take (length ps) times ≡ replicate (length ps) none =
-        ap (take (length ps)) e ∙ take-replicate (length ps) 1024 none (ready .held .few) in
-        let clear : (q : ℕ) → placed (take (length ps) times) q ≡ true → ⊥ =
-        λ q h. false≢true (sym (ap (λ (t : List ℕ). placed t q) table ∙ nothing-placed (length ps) q) ∙ h) in
-        record {
-          carried = carried;
-          on = refl;
-          times-long = times-long;
-          low = omega arith;
-          high = carried .within;
+-- it starts
+pub running-start : {t : Traffic} {f g : ℕ} {start : State} → Runs t f g start
+    → {times by marks : List ℕ} → times ≡ replicate 1024 none → length by ≡ 1024 → marks ≡ replicate allLinks 0
+    → Running t f g start (t .count) (t .longest) marks (standOf start times by 0 (start .base) 0)
+unfolding outcome passOver listOf
+running-start {t} {f} {g} {start} runs {times} e by-long unmarked =
+    let few : length (packetsHeld t) ≤ 1024 = held-in t (runs .ready .few) .few in
+    let table : take (length (packetsHeld t)) times ≡ replicate (length (packetsHeld t)) none =
+    ap (take (length (packetsHeld t))) e ∙ take-replicate (length (packetsHeld t)) 1024 none few in
+    let clear : (q : ℕ) → placed (take (length (packetsHeld t)) times) q ≡ true → ⊥ =
+    λ q h. false≢true (sym (ap (λ (t : List ℕ). placed t q) table ∙ nothing-placed (length (packetsHeld t)) q) ∙ h) in
+    record {
+      ready = runs .ready;
+      n-is = sym (packets-count t);
+      longest-is = refl;
+      honest = honest-start (t .lens) (t .links) unmarked;
+      going = record {
+        carried = runs .carried;
+        low = omega arith;
+        high = runs .carried .within;
+        few = omega arith;
+        kept = record {
           few = omega arith;
-          kept = record {
-            order = record { few = omega arith; listed = λ j h. absurd (omega arith); rising = λ i j h k. absurd (omega arith) };
-            by-long = by-long;
-            from-long = from-long;
-            until-long = until-long;
-            who-long = who-long;
-            flows = λ j h. absurd (omega arith);
-            filled = λ j h. absurd (omega arith);
-            soon = λ j h. absurd (omega arith);
-            short = λ j h. absurd (omega arith);
-          };
-          covers = record { within = λ q h k. absurd (clear q k); held = λ j c h. absurd (omega arith) };
-          ahead = λ q h. absurd (clear q h);
-          bounded = omega arith;
+          by-long = by-long;
+          times-long = ap length e ∙ length-replicate {A = ℕ} 1024 none;
+          listed = λ j h. absurd (omega arith);
+          soon = λ j h. absurd (omega arith);
+          rising = λ i j h k. absurd (omega arith);
         };
-    same = λ ps ready carried count.
-        ap₂ (λ (kept table : List ℕ). passFrom ps f g (slice base (length ps) order) kept (take (length ps) fails) table 0)
-        (slice-empty base order)
-        (ap (take (length ps)) e ∙ take-replicate (length ps) 1024 none (ready .held .few));
-  }
-
-  module _ {s : State} (run : Running load release due f g order fails base n s) (more : s .at < n) where
-    -- and goes on after a step that does not break it off
-    pub running-on : {t : State}
-        → ((ps : List Packet) → Ready ps load release due f g → Going ps (load .lens) (load .links) g s → s .at < length ps → Stepped ps (load .lens) (load .links) f g s t)
-        → t .again ≡ false → Running load release due f g order fails base n t
-    running-on stepped e = record {
-      goes = λ ps ready carried count. stepped ps ready (run .goes ps ready carried count) (omega arith) .goes e;
-      same = λ ps ready carried count.
-          stepped ps ready (run .goes ps ready carried count) (omega arith) .same ∙ run .same ps ready carried count;
+        listed = record { inside = λ j h. absurd (omega arith); timed = λ j h. absurd (omega arith); all = λ q h k. absurd (clear q k) };
+        ahead = λ q h. absurd (clear q h);
+        bounded = omega arith;
+      };
+      same =
+          ap₂ (λ (kept table : List ℕ). passFrom (packetsHeld t) f g (slice (start .base) (length (packetsHeld t)) (start .order)) kept (failsOf (length (packetsHeld t)) start) table 0)
+          (slice-empty (start .base) (start .order)) table;
     }
 
-    -- a step that breaks it off
-    pub running-broken : {t : State}
-        → ((ps : List Packet) → Ready ps load release due f g → Going ps (load .lens) (load .links) g s → s .at < length ps → Stepped ps (load .lens) (load .links) f g s t)
-        → t .again ≡ true → (ps : List Packet) → Ready ps load release due f g → Carried ps g order fails base → n ≡ length ps
-        → Ran ps f g order fails base (t .order) (t .fails) record { whole = false; base = t .base; tries = t .tries; times = t .times }
-    unfolding outcome passedOf
-    running-broken {t} stepped e ps ready carried count =
-        let d = stepped ps ready (run .goes ps ready carried count) (omega arith) in
-        let is : outcome ps f g t
-        ≡ record {
-          whole = false;
-          list = slice (t .base) (length ps) (t .order);
-          fails = take (length ps) (t .fails);
-          table = take (length ps) (t .times);
-          tries = t .tries;
-        } = rw (e, outcome) refl in
-        record {
-          same = sym is ∙ d .same ∙ run .same ps ready carried count;
-          carried = d .carried;
-          times-long = d .times-long;
-          bounded = d .bounded;
-        }
+module _ {t : Traffic} {f g : ℕ} {start : State} {n longest : ℕ} {marks : List ℕ} {s : Stand} (run : Running t f g start n longest marks s) where
+  module _ (next : s .at < n) where
+    -- a packet is left
+    pub more : s .at < length (packetsHeld t)
+    more = omega (arith, run .n-is)
+
+    -- it stands among the first 1,024
+    pub at-small : s .at < 1024
+    at-small = omega (arith, more, held-in t (run .ready .few) .few)
+
+    -- and is one of so many
+    pub next-small : nextOf s < 1024
+    next-small = omega (arith, next-in (run .ready) (run .going) more, held-in t (run .ready .few) .few)
+
+    -- no mark lies once those of the next packet's path are made
+    marked-more : {after : List ℕ} → after ≡ stamped (t .links) (getD (t .flow) (nextOf s) 0) (getD (t .lens) (getD (t .flow) (nextOf s) 0) 0) marks
+        → Honest (t .lens) (t .links) after
+    unfolding flowAt
+    marked-more e =
+        rw e (honest-stamped marks (run .ready .loaded .paths) (getD (t .flow) (nextOf s) 0)
+        (run .ready .loaded .flows (nextOf s) next-small) (run .honest))
+
+    module _ {r : Gap} (goes : r ≡ placeIn (loadIn t) (t .release) (t .due) (s .by) (s .count) (s .times) f (nextOf s))
+        {after : List ℕ} (stamps : after ≡ stamped (t .links) (getD (t .flow) (nextOf s) 0) (getD (t .lens) (getD (t .flow) (nextOf s) 0) 0) marks) {m : ℕ} where
+      -- a packet is placed, and the pass goes on
+      pub running-placed : {time : ℕ} → r .placed ≡ At time m → {times by : List ℕ}
+          → times ≡ set (s .times) (nextOf s) time → by ≡ shifted (s .by) (r .spot) (s .count) (nextOf s)
+          → Running t f g start n longest after (standOf (s .state) times by (s .count + 1) (s .at + 1) (s .tries + m))
+      running-placed {time} at times-is by-is =
+          let spot = place-spot (held-in t (run .ready .few)) (run .going .listed) (next-in (run .ready) (run .going) more) f goes at in
+          rw (times-is, by-is, spot)
+          record {
+            ready = run .ready;
+            n-is = run .n-is;
+            longest-is = run .longest-is;
+            honest = marked-more stamps;
+            going = placed-going (run .ready) (run .going) more goes at;
+            same = placed-outcome (run .ready) (run .going) more goes at ∙ run .same;
+          }
+
+      module _ (nowhere : r .placed ≡ Nowhere m) {turned : Turned} (turns : turned ≡ turnedAway (s .state) (s .at) (nextOf s) g) where
+        -- a packet is skipped, and the pass goes on
+        pub running-skipped : turned .again ≡ false
+            → Running t f g start n longest after (standOf (turned .state) (s .times) (s .by) (s .count) (s .at + 1) (s .tries + m))
+        running-skipped h =
+            let p = placing (run .ready) (run .going) more goes in
+            let again = ap (λ (k : Turned). k .again) (sym turns) ∙ h in
+            rw turns
+            record {
+              ready = run .ready;
+              n-is = run .n-is;
+              longest-is = run .longest-is;
+              honest = marked-more stamps;
+              going = skipped-going (run .ready) (run .going) more p nowhere again;
+              same = skipped-outcome (run .ready) (run .going) more p nowhere again ∙ run .same;
+            }
+
+        -- a packet goes to the front, and the pass is broken off
+        pub running-broken : turned .again ≡ true
+            → Ran (packetsHeld t) f g start record { whole = false; state = turned .state; tries = s .tries + m; times = s .times }
+        unfolding passedOf
+        running-broken h =
+            let p = placing (run .ready) (run .going) more goes in
+            let again = ap (λ (k : Turned). k .again) (sym turns) ∙ h in
+            rw turns
+            record {
+              same = broken-outcome (run .ready) (run .going) more p nowhere again ∙ run .same;
+              carried = broken-carries (run .ready) (run .going) more p nowhere again;
+              times-long = run .going .kept .times-long;
+              bounded = omega (arith, run .going .bounded, all-few (run .ready) (run .going) more p nowhere, held-in t (run .ready .few) .few);
+            }
 
   -- it runs to the end of its list
-  pub running-whole : {s : State} → Running load release due f g order fails base n s → n ≤ s .at
-      → (ps : List Packet) → Ready ps load release due f g → Carried ps g order fails base → n ≡ length ps
-      → Ran ps f g order fails base (s .order) (s .fails) record { whole = true; base = s .base; tries = s .tries; times = s .times }
-  unfolding passFrom passedOf
-  running-whole {s} run h ps ready carried count =
-      let going = run .goes ps ready carried count in
-      let e : s .at ≡ length ps = omega (arith, going .high) in
+  pub running-whole : n ≤ s .at → Ran (packetsHeld t) f g start record { whole = true; state = s .state; tries = s .tries; times = s .times }
+  unfolding passFrom passedOf outcome listOf
+  running-whole h =
+      let ps = packetsHeld t in
+      let e : s .at ≡ length (packetsHeld t) = omega (arith, run .n-is, run .going .high) in
       record {
         same =
             sym
-            (outcome-on ps f g s (going .on)
-            ∙ ap (λ (k : ℕ). passFrom ps f g (slice k (length ps) (s .order)) (slice (s .base) k (s .order)) (take (length ps) (s .fails)) (take (length ps) (s .times)) (s .tries)) e
-            ∙ ap (λ (rest : List ℕ). passFrom ps f g rest (slice (s .base) (length ps) (s .order)) (take (length ps) (s .fails)) (take (length ps) (s .times)) (s .tries))
-            (slice-empty (length ps) (s .order)))
-            ∙ run .same ps ready carried count;
-        carried = going .carried;
-        times-long = going .times-long;
-        bounded = omega (arith, going .bounded, ready .held .few);
+            (ap (λ (k : ℕ). passFrom ps f g (slice k (length ps) (s .state .order)) (slice (s .state .base) k (s .state .order)) (failsOf (length ps) (s .state)) (take (length ps) (s .times)) (s .tries)) e
+            ∙ ap (λ (rest : List ℕ). passFrom ps f g rest (slice (s .state .base) (length ps) (s .state .order)) (failsOf (length ps) (s .state)) (take (length ps) (s .times)) (s .tries))
+            (slice-empty (length ps) (s .state .order)))
+            ∙ run .same;
+        carried = run .going .carried;
+        times-long = run .going .kept .times-long;
+        bounded = omega (arith, run .going .bounded, held-in t (run .ready .few) .few);
       }

@@ -16,10 +16,9 @@ use Rattle.packet.specs.Packet.{Packet, mayStart, collide}
 use Rattle.packet.specs.Table.{packetAt, timeAt, none, placed}
 use Rattle.packet.proofs.Packet.{start-at, collide-swap}
 use Rattle.placing.specs.Placing.{inTheWay, free, timeOf, slotsOf, takenOf, placingOf}
-use Rattle.stretches.proofs.Covering.{placed-other}
+use Rattle.packet.proofs.Placed.{nothing-placed, placed-other}
 use Rattle.gaps.specs.declared.gap.Placed.the-variants.{At}
 use Rattle.passes.proofs.PassSteps.{placing-at, time-latest}
-use Rattle.passes.proofs.Running.{nothing-placed}
 
 -- ---- the taken time
 

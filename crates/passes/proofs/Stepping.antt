@@ -1,216 +1,208 @@
 -- One step of a pass as the code takes it: what it asks of placing, and what it leaves where the packet is placed.
 -- In order: the next packet; what is known of it; then the packet is placed. Where no time will do: proofs/Failing.antt.
-use mathlib.Core.Path.{_≡_, refl, sym, _∙_, ap, ap₂, subst}
+use mathlib.Core.Path.{_≡_, refl, sym, _∙_, ap, ap₂}
 use mathlib.Core.Bool.{true, false}
 use mathlib.Core.List.{List, _∷_}
 use Prim.Native.Nat.{ℕ, _+_, _≤_, _<_}
 use native.Mathlib.Decide.{ℕ-discrete}
 use native.Mathlib.Omega.{arith}
-use lib.ListN.{length, getD, set, take, length-set}
-use lib.Seq.{slice, getD-take, length-take-le, take-set-lt}
+use lib.ListN.{length, getD, set, take}
+use lib.Seq.{slice, getD-take}
 use Rattle.basics.proofs.Choose.{not-passing}
 use Rattle.hyper.specs.Hyper.{most}
 use Rattle.time.specs.Units.{latestOf}
 use Rattle.packet.specs.Packet.{Packet}
 use Rattle.packet.specs.Table.{packetAt, placed}
-use Rattle.placing.specs.Placing.{takenOf, placingOf}
 use Rattle.order.specs.Order.{occurs}
-use Rattle.stretches.specs.Keep.{busyWith}
-use Rattle.placing.specs.Held.{Load, flowAt, Place}
-use Rattle.stretches.specs.Covers.{Covers}
+use Rattle.order.specs.Lists.{shifted, Room}
 use Rattle.order.proofs.Ordering.{occurs-same}
-use Rattle.stretches.proofs.Covering.{placed-other, Taking}
-use Rattle.stretches.proofs.Growing.{kept-more, count-more, covers-more}
-use Rattle.gaps.specs.declared.gap.Placed.{Placed}
+use Rattle.kept.specs.Kept.{spotOf}
+use Rattle.kept.proofs.OneMore.{Taking, adds, spot-within, kept-more, listed-more, table-more, placed-same}
+use Rattle.marks.specs.Marks.{Honest}
+use Rattle.gaps.specs.declared.gap.Gap.{Gap}
 use Rattle.gaps.specs.declared.gap.Placed.the-variants.{At}
-use Rattle.settling.specs.Settling.{raised, spanAt, Settles}
+use Rattle.placing.specs.Placing.{takenOf, placingOf}
+use Rattle.placing.specs.Held.{Held, Placeable, placeIn}
+use Rattle.placing.specs.Traffic.{loadIn, packetsHeld}
+use Rattle.placing.specs.declared.traffic.Traffic.{Traffic}
+use Rattle.placing.proofs.Bridging.{placing-same, place-spot, packets-count, held-in}
+use Rattle.settling.specs.Settling.{raised}
 use Rattle.passes.specs.Pass.{passFrom}
-use Rattle.passes.specs.State.{State, outcome, Ready, Going, Stepped}
+use Rattle.passes.specs.Stand.{failsOf, listOf, Stand, standOf, outcome, Ready, Going}
 use Rattle.passes.proofs.Parts.{rest-next, taken-more, list-occurs}
 use Rattle.passes.proofs.PassSteps.{pass-placed, Taken, placing-at, slots-few, time-latest}
 
--- a pass that goes on leaves what the definition says
-pub outcome-on : (ps : List Packet) (f g : ℕ) (s : State) → s .again ≡ false
-    → outcome ps f g s
-    ≡ passFrom ps f g (slice (s .at) (length ps) (s .order)) (slice (s .base) (s .at) (s .order)) (take (length ps) (s .fails))
-    (take (length ps) (s .times)) (s .tries)
-unfolding outcome
-outcome-on ps f g s e = rw (e, outcome) refl
-
 -- the next packet
-abbrev pub nextOf : State → ℕ
-nextOf s = getD (s .order) (s .at) 0
+abbrev pub nextOf : Stand → ℕ
+nextOf s = getD (s .state .order) (s .at) 0
 
-module _ {ps : List Packet} {load : Load} {release due : List ℕ} {f g : ℕ} (ready : Ready ps load release due f g)
-    {s : State} (going : Going ps (load .lens) (load .links) g s) (more : s .at < length ps) where
-  few : length ps ≤ 1024
-  few = ready .held .few
+module _ {t : Traffic} {f g : ℕ} (ready : Ready t f g) {s : Stand} (going : Going (packetsHeld t) g s) (more : s .at < length (packetsHeld t)) where
+  -- the packets, and that the arrays hold them
+  abbrev ps : List Packet
+  ps = packetsHeld t
 
-  pub long : length ps ≤ length (s .order)
+  held : Held (packetsHeld t) (loadIn t) (t .release) (t .due)
+  held = held-in t (ready .few)
+
+  pub few : length (packetsHeld t) ≤ 1024
+  few = held .few
+
+  pub long : length (packetsHeld t) ≤ length (s .state .order)
   long = omega (arith, going .carried .order-long, few)
 
   -- it is a packet
-  pub next-in : nextOf s < length ps
+  pub next-in : nextOf s < length (packetsHeld t)
   next-in = going .carried .numbers (s .at) more
 
+  next-count : nextOf s < t .count
+  next-count = omega (arith, next-in, packets-count t)
+
   -- what placing it asks
-  pub place-asks : {marks : List ℕ} → length marks ≡ 2048 → Place load release due marks (s .busy) f (nextOf s)
-  place-asks marks-long = record {
-    marks-long = marks-long;
+  pub place-asks : {marks : List ℕ} → Honest (t .lens) (t .links) marks
+      → Placeable (loadIn t) (t .release) (t .due) marks (s .by) (s .count) (s .times) (t .longest) f (nextOf s)
+  place-asks honest = record {
     loaded = ready .loaded;
+    honest = honest;
     kept = going .kept;
     packet = omega (arith, next-in, few);
     some-step = ready .some-step;
     small-step = ready .small-step;
-    soon = ready .soon (nextOf s) next-in;
-    fits = ready .fits (nextOf s) next-in;
-    due-soon = omega (arith, ready .ends (nextOf s) next-in);
+    lasting = ready .lasting (nextOf s) next-count;
+    fits = ready .fits (nextOf s) next-count;
+    ends = ready .ends (nextOf s) next-count;
+    longest-of = ready .longest-of;
   }
 
   -- it stands in the list once
-  pub list-once : occurs (nextOf s) (slice (s .base) (s .at) (s .order)) + occurs (nextOf s) (slice (s .at + 1) (length ps) (s .order)) ≡ 0
+  pub list-once : occurs (nextOf s) (slice (s .state .base) (s .at) (s .state .order)) + occurs (nextOf s) (slice (s .at + 1) (length (packetsHeld t)) (s .state .order)) ≡ 0
+  unfolding listOf
   list-once =
       omega (
         arith,
         going .carried .once (nextOf s),
-        list-occurs (s .order) (s .base) (s .at) (length ps) (going .low) more long (nextOf s),
-        occurs-same (nextOf s) (slice (s .at + 1) (length ps) (s .order)),
+        list-occurs (s .state .order) (s .state .base) (s .at) (length ps) (going .low) more long (nextOf s),
+        occurs-same (nextOf s) (slice (s .at + 1) (length ps) (s .state .order)),
       )
 
   -- its fail count is below G
-  pub next-below : getD (s .fails) (nextOf s) 0 < g
+  pub next-below : getD (s .state .fails) (nextOf s) 0 < g
+  unfolding listOf
   next-below =
       going .carried .below (nextOf s)
       (omega (
         arith,
-        list-occurs (s .order) (s .base) (s .at) (length ps) (going .low) more long (nextOf s),
-        occurs-same (nextOf s) (slice (s .at + 1) (length ps) (s .order)),
+        list-occurs (s .state .order) (s .state .base) (s .at) (length ps) (going .low) more long (nextOf s),
+        occurs-same (nextOf s) (slice (s .at + 1) (length ps) (s .state .order)),
       ))
 
   -- and it is not placed
   not-placed : placed (take (length ps) (s .times)) (nextOf s) ≡ false
   not-placed = not-passing _ (λ e.
-      let none-left : occurs (nextOf s) (getD (s .order) (s .at) 0 ∷ slice (s .at + 1) (length ps) (s .order)) ≡ 0 =
-      ap (occurs (nextOf s)) (sym (rest-next (s .order) (s .base) (s .at) (length ps) (going .low) more long)) ∙ going .ahead (nextOf s) e in
-      omega (arith, occurs-same (nextOf s) (slice (s .at + 1) (length ps) (s .order))))
+      let none-left : occurs (nextOf s) (nextOf s ∷ slice (s .at + 1) (length ps) (s .state .order)) ≡ 0 =
+      ap (occurs (nextOf s)) (sym (rest-next (s .state .order) (s .state .base) (s .at) (length ps) (going .low) more long)) ∙ going .ahead (nextOf s) e in
+      omega (arith, occurs-same (nextOf s) (slice (s .at + 1) (length ps) (s .state .order))))
 
   -- what is placed does not stand behind it
-  pub behind : (q : ℕ) → placed (take (length ps) (s .times)) q ≡ true → occurs q (slice (s .at + 1) (length ps) (s .order)) ≡ 0
+  pub behind : (q : ℕ) → placed (take (length (packetsHeld t)) (s .times)) q ≡ true → occurs q (slice (s .at + 1) (length (packetsHeld t)) (s .state .order)) ≡ 0
   unfolding occurs
   behind q e =
-      let none-left : occurs q (getD (s .order) (s .at) 0 ∷ slice (s .at + 1) (length ps) (s .order)) ≡ 0 =
-      ap (occurs q) (sym (rest-next (s .order) (s .base) (s .at) (length ps) (going .low) more long)) ∙ going .ahead q e in
+      let none-left : occurs q (nextOf s ∷ slice (s .at + 1) (length ps) (s .state .order)) ≡ 0 =
+      ap (occurs q) (sym (rest-next (s .state .order) (s .state .base) (s .at) (length ps) (going .low) more long)) ∙ going .ahead q e in
       omega arith
 
   -- its fail count, risen by one
-  pub rises : raised (take (length ps) (s .fails)) (nextOf s) ≡ raised (s .fails) (nextOf s)
-  unfolding raised
-  rises = ap (λ (n : ℕ). n + 1) (getD-take (length ps) (s .fails) (nextOf s) 0 next-in)
+  pub rises : raised (failsOf (length (packetsHeld t)) (s .state)) (nextOf s) ≡ raised (s .state .fails) (nextOf s)
+  unfolding raised failsOf
+  rises = ap (λ (n : ℕ). n + 1) (getD-take (length ps) (s .state .fails) (nextOf s) 0 next-in)
 
   -- the definition at the next packet
-  pub here : outcome ps f g s
-      ≡ passFrom ps f g ((nextOf s) ∷ slice (s .at + 1) (length ps) (s .order)) (slice (s .base) (s .at) (s .order)) (take (length ps) (s .fails))
-      (take (length ps) (s .times)) (s .tries)
+  pub here : outcome (packetsHeld t) f g s
+      ≡ passFrom (packetsHeld t) f g (nextOf s ∷ slice (s .at + 1) (length (packetsHeld t)) (s .state .order)) (slice (s .state .base) (s .at) (s .state .order))
+      (failsOf (length (packetsHeld t)) (s .state)) (take (length (packetsHeld t)) (s .times)) (s .tries)
+  unfolding outcome
   here =
-      outcome-on ps f g s (going .on)
-      ∙ ap (λ (rest : List ℕ). passFrom ps f g rest (slice (s .base) (s .at) (s .order)) (take (length ps) (s .fails)) (take (length ps) (s .times)) (s .tries))
-      (rest-next (s .order) (s .base) (s .at) (length ps) (going .low) more long)
+      ap (λ (rest : List ℕ). passFrom ps f g rest (slice (s .state .base) (s .at) (s .state .order)) (failsOf (length ps) (s .state)) (take (length ps) (s .times)) (s .tries))
+      (rest-next (s .state .order) (s .state .base) (s .at) (length ps) (going .low) more long)
 
   -- the latest start is in time
-  pub latest-small : latestOf (packetAt ps (nextOf s) .deadline) (packetAt ps (nextOf s) .occupancy) ≤ most
+  pub latest-small : latestOf (packetAt (packetsHeld t) (nextOf s) .deadline) (packetAt (packetsHeld t) (nextOf s) .occupancy) ≤ most
   unfolding latestOf
-  latest-small = omega (arith, ready .held .deadlines (nextOf s) next-in, ready .ends (nextOf s) next-in)
+  latest-small = omega (arith, held .deadlines (nextOf s) next-in, ready .ends (nextOf s) next-count)
 
   release-latest : packetAt ps (nextOf s) .release ≤ latestOf (packetAt ps (nextOf s) .deadline) (packetAt ps (nextOf s) .occupancy)
   unfolding latestOf
   release-latest =
-      omega (arith, ready .held .deadlines (nextOf s) next-in, ready .held .spans (nextOf s) next-in, ready .held .releases (nextOf s) next-in, ready .fits (nextOf s) next-in)
+      omega (arith, held .deadlines (nextOf s) next-in, held .spans (nextOf s) next-in, held .releases (nextOf s) next-in, ready .fits (nextOf s) next-count)
 
-  -- ---- the packet is placed
+  -- ---- where it goes
 
-  module _ {r : Placed} (placing : r ≡ placingOf ps f (take (length ps) (s .times)) (nextOf s)) {t m : ℕ} (at : r ≡ At t m) where
-    e : placingOf ps f (take (length ps) (s .times)) (nextOf s) ≡ At t m
-    e = sym placing ∙ at
+  module _ {r : Gap} (goes : r ≡ placeIn (loadIn t) (t .release) (t .due) (s .by) (s .count) (s .times) f (nextOf s)) where
+    -- it goes where the definition says
+    pub placing : r .placed ≡ placingOf (packetsHeld t) f (take (length (packetsHeld t)) (s .times)) (nextOf s)
+    placing = ap (λ (k : Gap). k .placed) goes ∙ placing-same held (going .listed) next-in f
 
-    taken : Taken f (packetAt ps (nextOf s)) (takenOf ps f (take (length ps) (s .times)) (nextOf s)) t m
-    taken = placing-at ps f (take (length ps) (s .times)) (nextOf s) t m e
+    -- ---- the packet is placed
 
-    pub time-soon : t ≤ most
-    time-soon = omega (arith, taken .time, time-latest f (packetAt ps (nextOf s)) _ (taken .one-of) release-latest, latest-small)
+    module _ {time m : ℕ} (at : r .placed ≡ At time m) where
+      e : placingOf ps f (take (length ps) (s .times)) (nextOf s) ≡ At time m
+      e = sym placing ∙ at
 
-    pub tries-few : m ≤ 16777217
-    tries-few = omega (arith, taken .tried, taken .one-of, slots-few f (packetAt ps (nextOf s)), latest-small)
+      taken : Taken f (packetAt ps (nextOf s)) (takenOf ps f (take (length ps) (s .times)) (nextOf s)) time m
+      taken = placing-at ps f (take (length ps) (s .times)) (nextOf s) time m e
 
-    -- what keeping it asks
-    pub settles : Settles load (s .busy) (nextOf s) t
-    unfolding spanAt flowAt
-    settles =
-        let own : getD (load .flow) (nextOf s) 0 < 64 = ready .loaded .flows (nextOf s) (omega (arith, next-in, few)) in
-        record {
-          packet = omega (arith, next-in, few);
-          flow = own;
-          keeps = record {
-            kept = going .kept;
-            paths = ready .loaded .paths;
-            room = omega (arith, going .few, few);
-            flow = own;
-            lasting = omega (arith, ready .held .busy (nextOf s) next-in, ready .held .spans (nextOf s) next-in);
-            soon = omega (arith, time-soon, ready .loaded .spans (getD (load .flow) (nextOf s) 0) own);
-          };
-        }
+      time-soon : time ≤ most
+      time-soon = omega (arith, taken .time, time-latest f (packetAt ps (nextOf s)) _ (taken .one-of) release-latest, latest-small)
 
-    -- it takes its time
-    takes : Taking ps (load .lens) (load .links) (take (length ps) (s .times)) (nextOf s) (flowAt load (nextOf s)) t (t + spanAt load (nextOf s))
-    unfolding spanAt
-    takes = record {
-      packet = next-in;
-      long = length-take-le (length ps) (s .times) (omega (arith, going .times-long, few));
-      fresh = not-placed;
-      soon = omega (arith, time-soon);
-      ends = omega (arith, ready .held .spans (nextOf s) next-in);
-      along = ready .held .paths (nextOf s) next-in;
-    }
+      pub tries-few : m ≤ 16777217
+      tries-few = omega (arith, taken .tried, taken .one-of, slots-few f (packetAt ps (nextOf s)), latest-small)
 
-    pub after-placed : Stepped ps (load .lens) (load .links) f g s record {
-      order = s .order;
-      fails = s .fails;
-      times = set (s .times) (nextOf s) t;
-      busy = busyWith (load .lens) (load .links) (s .busy) (flowAt load (nextOf s)) t (t + spanAt load (nextOf s));
-      base = s .base;
-      at = s .at + 1;
-      tries = s .tries + m;
-      again = false;
-    }
-    unfolding outcome
-    after-placed = record {
-      same =
+      -- it takes its time
+      takes : Taking ps (s .by) (s .count) (s .times) time (nextOf s)
+      takes = record {
+        kept = going .kept;
+        listed = going .listed;
+        room = omega (arith, going .few, few);
+        few = few;
+        packet = next-in;
+        soon = time-soon;
+        fresh = not-placed;
+      }
+
+      -- what its settling asks
+      pub settles : Room (s .by) (r .spot) (s .count) × (nextOf s < 1024)
+      settles = (record { long = going .kept .by-long; order = omega (arith, place-spot held (going .listed) next-in f goes at, spot-within (adds takes)); within = omega (arith, going .few, few) }, omega (arith, next-in, few))
+
+      -- where the pass stands then
+      abbrev stood : Stand
+      stood =
+          standOf (s .state) (set (s .times) (nextOf s) time) (shifted (s .by) (spotOf (s .by) (s .count) (s .times) time) (s .count) (nextOf s)) (s .count + 1) (s .at + 1) (s .tries + m)
+
+      -- it leaves the same
+      pub placed-outcome : outcome (packetsHeld t) f g
+          (standOf (s .state) (set (s .times) (nextOf s) time) (shifted (s .by) (spotOf (s .by) (s .count) (s .times) time) (s .count) (nextOf s)) (s .count + 1) (s .at + 1) (s .tries + m))
+          ≡ outcome (packetsHeld t) f g s
+      unfolding outcome
+      placed-outcome =
           sym
-          (here ∙ pass-placed ps f g (nextOf s) _ _ _ _ (s .tries) m t e
-          ∙ ap₂ (λ (kept table : List ℕ). passFrom ps f g (slice (s .at + 1) (length ps) (s .order)) kept (take (length ps) (s .fails)) table (s .tries + m))
-          (sym (taken-more (s .order) (s .base) (s .at) (length ps) (going .low) more long))
-          (sym (take-set-lt (length ps) (s .times) (nextOf s) t next-in)));
-      carried = going .carried;
-      times-long = length-set (s .times) (nextOf s) t ∙ going .times-long;
-      bounded = omega (arith, going .bounded, tries-few, few);
-      goes = λ _. record {
+          (here ∙ pass-placed ps f g (nextOf s) _ _ _ _ (s .tries) m time e
+          ∙ ap₂ (λ (kept table : List ℕ). passFrom ps f g (slice (s .at + 1) (length ps) (s .state .order)) kept (failsOf (length ps) (s .state)) table (s .tries + m))
+          (sym (taken-more (s .state .order) (s .state .base) (s .at) (length ps) (going .low) more long))
+          (sym (table-more takes)))
+
+      -- and goes on
+      pub placed-going : Going (packetsHeld t) g
+          (standOf (s .state) (set (s .times) (nextOf s) time) (shifted (s .by) (spotOf (s .by) (s .count) (s .times) time) (s .count) (nextOf s)) (s .count + 1) (s .at + 1) (s .tries + m))
+      placed-going = record {
         carried = going .carried;
-        on = refl;
-        times-long = length-set (s .times) (nextOf s) t ∙ going .times-long;
         low = omega (arith, going .low);
-        high = omega arith;
-        few = omega (arith, going .few, count-more (settles .keeps));
-        kept = kept-more (settles .keeps);
-        covers =
-            subst (Covers ps (load .lens) (load .links) (busyWith (load .lens) (load .links) (s .busy) (flowAt load (nextOf s)) t (t + spanAt load (nextOf s))))
-            (sym (take-set-lt (length ps) (s .times) (nextOf s) t next-in)) (covers-more (settles .keeps) takes (going .covers));
+        high = omega (arith, more);
+        few = omega (arith, going .few);
+        kept = kept-more (adds takes);
+        listed = listed-more takes;
         ahead = λ q h.
             elim (ℕ-discrete q (nextOf s)) [
               | yes a ↦ rw a (omega (arith, list-once))
-              | no a ↦
-                  behind q
-                  (sym (ap (λ (table : List ℕ). placed table q) (take-set-lt (length ps) (s .times) (nextOf s) t next-in) ∙ placed-other (take (length ps) (s .times)) (nextOf s) t q a) ∙ h)
+              | no a ↦ behind q (sym (placed-same takes q a) ∙ h)
             ];
         bounded = omega (arith, going .bounded, tries-few);
-      };
-      taken = λ _. refl;
-    }
+      }

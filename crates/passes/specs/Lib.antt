@@ -1,5 +1,5 @@
--- A pass, the passes, the search over any list of packets; and how the code holds them.
+-- A pass, the passes, the search over any list of packets; and both as the code takes them.
 pub mod Pass
 pub mod Passes
-pub mod State
+pub mod Stand
 pub mod Search

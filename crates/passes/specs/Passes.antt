@@ -32,9 +32,13 @@ passesFrom (suc fuel) ps f g list fails passes tries =
 unfoldable pub ceiling : ℕ → ℕ → ℕ
 ceiling packets g = packets * (g - 1) + 1
 
--- the search over any list of packets: the list in order of a key, no packet failed yet
-unfoldable pub searchBy : (ℕ → ℕ) → List Packet → ℕ → ℕ → Found
-searchBy key ps f g = passesFrom (ceiling (length ps) g) ps f g (sorted key 0 (length ps)) (replicate (length ps) 0) 0 0
+-- the search over any list of packets, from a list of their numbers: no packet failed yet
+unfoldable pub searchFrom : List ℕ → List Packet → ℕ → ℕ → Found
+searchFrom list ps f g = passesFrom (ceiling (length ps) g) ps f g list (replicate (length ps) 0) 0 0
+
+-- the list starts in order of a key
+abbrev pub searchBy : (ℕ → ℕ) → List Packet → ℕ → ℕ → Found
+searchBy key ps f g = searchFrom (sorted key 0 (length ps)) ps f g
 
 -- how many packets are skipped: their places hold no time
 unfoldable pub skippedIn : List Packet → List ℕ → ℕ

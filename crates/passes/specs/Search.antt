@@ -1,26 +1,32 @@
--- The whole search as the code holds it.
+-- The whole search as the code takes it.
 use mathlib.Core.Path.{_≡_}
 use mathlib.Core.List.{List}
-use Prim.Native.Nat.{ℕ}
-use lib.ListN.{length, take}
+use Prim.Native.Nat.{ℕ, _≤_, _<_}
+use lib.ListN.{length, getD, take}
 use Rattle.packet.specs.Packet.{Packet}
-use Rattle.placing.specs.Held.{Load}
-use Rattle.passes.specs.Passes.{Found, searchBy}
-use Rattle.passes.specs.State.{Ready}
+use Rattle.order.specs.Order.{occurs}
+use Rattle.placing.specs.Traffic.{packetsHeld}
+use Rattle.placing.specs.declared.traffic.Traffic.{Traffic}
+use Rattle.passes.specs.Passes.{Found, searchFrom}
+use Rattle.passes.specs.Stand.{Ready}
 use Rattle.passes.specs.declared.repeat.Outcome.{Outcome}
 
--- what the passes leave, read off the arrays
+-- what the passes leave, as the definition has it
 unfoldable pub foundOf : ℕ → Outcome → Found
 foundOf n r = record { table = take n (r .times); passes = r .passes; tries = r .tries }
 
--- what the search asks: some packets that the arrays hold, and an array of keys
-pub record Searches (key : List ℕ) (load : Load) (release due : List ℕ) (f g n : ℕ) : Type 0 where
-  pub ps : List Packet
-  pub ready : Ready ps load release due f g
-  pub count : n ≡ length ps
-  pub keys : length key ≡ 1024
+-- the list that the passes begin with holds packets, each at most once
+pub record Listing (list : List ℕ) (n : ℕ) : Type 0 where
+  pub long : length list ≡ 1024
+  pub numbers : (j : ℕ) → j < n → getD list j 0 < n
+  pub once : (q : ℕ) → occurs q (take n list) ≤ 1
 
--- it leaves what the definition says
-pub record Searched (ps : List Packet) (key : ℕ → ℕ) (f g : ℕ) (r : Outcome) : Type 0 where
-  pub same : foundOf (length ps) r ≡ searchBy key ps f g
+-- what the passes ask: packets in time, and their list
+pub record Searches (t : Traffic) (f g : ℕ) (list : List ℕ) : Type 0 where
+  pub ready : Ready t f g
+  pub listing : Listing list (t .count)
+
+-- they leave what the definition says
+pub record Searched (t : Traffic) (f g : ℕ) (list : List ℕ) (r : Outcome) : Type 0 where
+  pub same : foundOf (t .count) r ≡ searchFrom (take (t .count) list) (packetsHeld t) f g
   pub times-long : length (r .times) ≡ 1024

@@ -1,13 +1,7 @@
-// The passes, from the list in order of a key, until one runs to the end of its list.
+// The passes, from a list of packets on, until one runs to the end of its list.
 use crate::walk::pass;
-use order::in_order;
-ghost use mathlib.Core.Path.{_≡_};
-ghost use mathlib.Core.List.{List};
-ghost use lib.ListN.{length};
-ghost use Rattle.packet.specs.Packet.{Packet};
-ghost use Rattle.order.specs.Lists.{keyIn};
-ghost use Rattle.placing.specs.Held.{loadOf};
-ghost use Rattle.passes.specs.State.{Ready};
+use placing::Traffic;
+use settling::State;
 ghost use Rattle.passes.specs.Search.{Searches, Searched};
 
 // What the passes leave: the table, the passes begun, and the times tried.
@@ -19,41 +13,19 @@ pub struct Outcome {
 
 // The passes: one that is broken off is followed by a new one, one that runs to the end is the result. The fail counts are never set
 // back.
-pub fn rounds(
-    key: &[u64; 1024],
-    n: usize,
-    flow: &[u16; 1024],
-    occupancy: &[u32; 64],
-    lens: &[usize; 64],
-    links: &[u16; 2048],
-    release: &[u32; 1024],
-    due: &[u32; 64],
-    pruning: u32,
-    threshold: u32,
-) -> Outcome
-    requires { ⌜ Searches (now key) (loadOf (now flow) (now occupancy) (now lens) (now links)) (now release) (now due) pruning threshold n ⌝ }
-    ensures { λ r. ⌜ ((ps : List Packet) → Ready ps (loadOf (now (flow .entry)) (now (occupancy .entry)) (now (lens .entry)) (now (links .entry))) (now (release .entry)) (now (due .entry)) pruning threshold → n ≡ length ps → Searched ps (keyIn (now (key .entry))) pruning threshold r) ⌝ }
+pub fn rounds(list: [u16; 1024], traffic: Traffic, pruning: u32, threshold: u32) -> Outcome
+    requires { ⌜ Searches traffic pruning threshold list ⌝ }
+    ensures { λ r. ⌜ Searched traffic pruning threshold list r ⌝ }
 {
-    let mut order = in_order(key, n);
-    let mut fails = [0u8; 1024];
-    let mut base = 0;
+    let mut state = State {
+        order: list,
+        fails: [0; 1024],
+        base: 0,
+    };
     let mut passes: u32 = 0;
     let mut tries: u64 = 0;
     loop {
-        let r = pass(
-            &mut order,
-            &mut fails,
-            base,
-            n,
-            flow,
-            occupancy,
-            lens,
-            links,
-            release,
-            due,
-            pruning,
-            threshold,
-        );
+        let r = pass(state, traffic, pruning, threshold);
         passes += 1;
         tries += r.tries;
         if r.whole {
@@ -64,6 +36,7 @@ pub fn rounds(
                 tries,
             };
         }
-        base = r.base;
+        let next = r.state;
+        state = next;
     }
 }

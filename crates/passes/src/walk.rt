@@ -1,168 +1,84 @@
 // One pass: the packets are taken in list order, each placed, moved to the front, or skipped.
 use gaps::Placed;
+use mesh::ALL_LINKS;
+use placing::Traffic;
 use placing::place;
-use settling::Walk;
+use settling::State;
 use settling::no_times;
 use settling::settle;
 use settling::turn_away;
-use stretches::Extent;
-ghost use mathlib.Core.Path.{_≡_};
-ghost use mathlib.Core.List.{List};
-ghost use Prim.Native.Nat.{_+_, _<_};
-ghost use lib.ListN.{length};
-ghost use Rattle.packet.specs.Packet.{Packet};
-ghost use Rattle.placing.specs.Held.{loadOf};
-ghost use Rattle.passes.specs.State.{stateOf, Ready, Carried, Going, Steps, Stepped, Runs, Ran};
+ghost use Rattle.placing.specs.Traffic.{packetsHeld};
+ghost use Rattle.passes.specs.Stand.{Runs, Ran};
 
-// Takes the next packet. Placed, it stays in the list; else it is turned away.
-fn step(
-    w: Walk,
-    order: &mut [u16; 1024],
-    fails: &mut [u8; 1024],
-    times: &mut [u32; 1024],
-    by: &mut [u16; 1024],
-    from: &mut [u32; 1024],
-    until: &mut [u32; 1024],
-    who: &mut [u16; 1024],
-    marks: &mut [u8; 2048],
-    flow: &[u16; 1024],
-    occupancy: &[u32; 64],
-    lens: &[usize; 64],
-    links: &[u16; 2048],
-    release: &[u32; 1024],
-    due: &[u32; 64],
-    pruning: u32,
-    threshold: u32,
-) -> Walk
-    requires { ⌜ Steps (loadOf (now flow) (now occupancy) (now lens) (now links)) (now release) (now due) (now marks) pruning threshold (stateOf (now order) (now fails) (now times) (now by) (now from) (now until) (now who) w) ⌝ }
-    ensures { λ r. ⌜ (length (now (marks .exit)) ≡ 2048) × ((ps : List Packet) → Ready ps (loadOf (now (flow .entry)) (now (occupancy .entry)) (now (lens .entry)) (now (links .entry))) (now (release .entry)) (now (due .entry)) pruning threshold → Going ps (now (lens .entry)) (now (links .entry)) threshold (stateOf (now (order .entry)) (now (fails .entry)) (now (times .entry)) (now (by .entry)) (now (from .entry)) (now (until .entry)) (now (who .entry)) w) → w .at < length ps → Stepped ps (now (lens .entry)) (now (links .entry)) pruning threshold (stateOf (now (order .entry)) (now (fails .entry)) (now (times .entry)) (now (by .entry)) (now (from .entry)) (now (until .entry)) (now (who .entry)) w) (stateOf (now (order .exit)) (now (fails .exit)) (now (times .exit)) (now (by .exit)) (now (from .exit)) (now (until .exit)) (now (who .exit)) r)) ⌝ }
-{
-    let at = w.at;
-    let extent = w.extent;
-    let packet = order[at];
-    let p = packet as usize;
-    let placed = place(
-        by,
-        from,
-        until,
-        who,
-        extent,
-        marks,
-        flow,
-        occupancy,
-        lens,
-        links,
-        release,
-        due,
-        pruning,
-        p,
-    );
-    match placed {
-        Placed::At { time, tries } => {
-            let extent = settle(
-                times,
-                by,
-                from,
-                until,
-                who,
-                extent,
-                flow,
-                occupancy,
-                lens,
-                links,
-                p,
-                time,
-            );
-            Walk {
-                base: w.base,
-                at: at + 1,
-                extent,
-                tries: w.tries + tries as u64,
-                again: false,
-            }
-        }
-        Placed::Nowhere { tries } => turn_away(w, order, fails, packet, tries, threshold),
-    }
-}
-
-// What a pass leaves beside the order and the fail counts: whether it ran to the end of its list, where the list begins, the times
-// tried, and the table.
+// What a pass leaves: whether it ran to the end of its list, the state, the times tried, and the table.
 pub struct Passed {
     pub whole: bool,
-    pub base: usize,
+    pub state: State,
     pub tries: u64,
     pub times: [u32; 1024],
 }
 
-// A pass begins with nothing placed and takes the packets in list order.
-pub fn pass(
-    order: &mut [u16; 1024],
-    fails: &mut [u8; 1024],
-    base: usize,
-    n: usize,
-    flow: &[u16; 1024],
-    occupancy: &[u32; 64],
-    lens: &[usize; 64],
-    links: &[u16; 2048],
-    release: &[u32; 1024],
-    due: &[u32; 64],
-    pruning: u32,
-    threshold: u32,
-) -> Passed
-    requires { ⌜ Runs (loadOf (now flow) (now occupancy) (now lens) (now links)) (now release) (now due) pruning threshold (now order) (now fails) base n ⌝ }
-    ensures { λ r. ⌜ ((ps : List Packet) → Ready ps (loadOf (now (flow .entry)) (now (occupancy .entry)) (now (lens .entry)) (now (links .entry))) (now (release .entry)) (now (due .entry)) pruning threshold → Carried ps threshold (now (order .entry)) (now (fails .entry)) base → n ≡ length ps → Ran ps pruning threshold (now (order .entry)) (now (fails .entry)) base (now (order .exit)) (now (fails .exit)) r) ⌝ }
+// A pass begins with nothing placed and takes the packets in list order. Placed, a packet stays in the list; else it is turned away.
+pub fn pass(s: State, traffic: Traffic, pruning: u32, threshold: u32) -> Passed
+    requires { ⌜ Runs traffic pruning threshold s ⌝ }
+    ensures { λ r. ⌜ Ran (packetsHeld traffic) pruning threshold s r ⌝ }
 {
+    let n = traffic.count;
+    let longest = traffic.longest;
+    let mut state = s;
     let mut times = no_times();
     let mut by = [0u16; 1024];
-    let mut from = [0u32; 1024];
-    let mut until = [0u32; 1024];
-    let mut who = [0u16; 1024];
-    let mut marks = [0u8; 2048];
-    let extent = Extent {
-        count: 0,
-        longest: 0,
-    };
-    let mut w = Walk {
-        base,
-        at: base,
-        extent,
-        tries: 0,
-        again: false,
-    };
-    while w.at < n {
-        let next = step(
-            w,
-            order,
-            fails,
-            &mut times,
-            &mut by,
-            &mut from,
-            &mut until,
-            &mut who,
+    let mut marks = [0u8; ALL_LINKS];
+    let mut count = 0;
+    let mut at = s.base;
+    let mut tries: u64 = 0;
+    while at < n {
+        let packet = state.order[at];
+        let gap = place(
+            &by,
+            count,
+            &times,
             &mut marks,
-            flow,
-            occupancy,
-            lens,
-            links,
-            release,
-            due,
+            &traffic.flow,
+            &traffic.release,
+            &traffic.occupancy,
+            &traffic.due,
+            longest,
+            &traffic.lens,
+            &traffic.links,
             pruning,
-            threshold,
+            packet as usize,
         );
-        w = next;
-        if w.again {
-            return Passed {
-                whole: false,
-                base: w.base,
-                tries: w.tries,
-                times,
-            };
+        let placed = gap.placed;
+        match placed {
+            Placed::At { time, tries: tried } => {
+                settle(&mut times, &mut by, count, gap.spot, packet, time);
+                tries += tried as u64;
+                count += 1;
+                at += 1;
+                continue;
+            }
+            Placed::Nowhere { tries: tried } => {
+                let turned = turn_away(state, at, packet, threshold);
+                let next = turned.state;
+                tries += tried as u64;
+                if turned.again {
+                    return Passed {
+                        whole: false,
+                        state: next,
+                        tries,
+                        times,
+                    };
+                }
+                state = next;
+                at += 1;
+            }
         }
     }
     Passed {
         whole: true,
-        base: w.base,
-        tries: w.tries,
+        state,
+        tries,
         times,
     }
 }

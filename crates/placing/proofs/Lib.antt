@@ -1,3 +1,4 @@
--- The stretches in the way are the packets in the way; and that every answer is determined.
+-- The placed packets in the way are those of the table; and that the answer is determined.
 pub mod Bridging
+pub mod Asking
 pub mod Determined

@@ -1,55 +1,47 @@
--- The packets as the code holds them, and what the search for a start asks of them.
+-- Packets as the code has them in arrays, and where one of them goes.
 use mathlib.Core.Path.{_≡_}
 use mathlib.Core.List.{List}
-use Prim.Native.Nat.{ℕ, _+_, _≤_, _<_}
+use Prim.Native.Nat.{ℕ, _+_, _-_, _≤_, _<_}
 use lib.ListN.{length, getD}
 use Rattle.hyper.specs.Hyper.{most}
 use Rattle.packet.specs.Packet.{Packet}
 use Rattle.packet.specs.Table.{packetAt}
-use Rattle.stretches.specs.Busy.{entry, pathIn, Busy, Kept, Paths}
-
--- what packets hold: the flow of each packet; the occupancy and the path of each flow
-pub record Load : Type 0 where
-  pub flow : List ℕ
-  pub occupancy : List ℕ
-  pub lens : List ℕ
-  pub links : List ℕ
-
-abbrev pub loadOf : List ℕ → List ℕ → List ℕ → List ℕ → Load
-loadOf flow occupancy lens links = record { flow = flow; occupancy = occupancy; lens = lens; links = links }
-
--- the flow of packet p
-unfoldable pub flowAt : Load → ℕ → ℕ
-flowAt load p = getD (load .flow) p 0
+use Rattle.kept.specs.Load.{Load, flowAt, spanOf, pathFor, Loaded}
+use Rattle.kept.specs.Kept.{startOf, Kept}
+use Rattle.marks.specs.Marks.{Honest}
+use Rattle.gaps.specs.Gaps.{gapIn}
+use Rattle.gaps.specs.declared.gap.Gap.{Gap}
 
 -- the arrays hold a list of packets: the release of each, and D, the occupancy and the path of its flow
 pub record Held (ps : List Packet) (load : Load) (release due : List ℕ) : Type 0 where
   pub few : length ps ≤ 1024
   pub releases : (p : ℕ) → p < length ps → packetAt ps p .release ≡ getD release p 0
   pub deadlines : (p : ℕ) → p < length ps → packetAt ps p .deadline ≡ getD release p 0 + getD due (flowAt load p) 0
-  pub spans : (p : ℕ) → p < length ps → packetAt ps p .occupancy ≡ getD (load .occupancy) (flowAt load p) 0
-  pub paths : (p : ℕ) → p < length ps → packetAt ps p .path ≡ pathIn (load .lens) (load .links) (flowAt load p)
-  pub busy : (p : ℕ) → p < length ps → 0 < packetAt ps p .occupancy
+  pub spans : (p : ℕ) → p < length ps → packetAt ps p .occupancy ≡ spanOf load (flowAt load p)
+  pub paths : (p : ℕ) → p < length ps → packetAt ps p .path ≡ pathFor load (flowAt load p)
 
--- flows are below 64, their occupancies within the longest hyper-period
-pub record Loaded (load : Load) : Type 0 where
-  pub flows : (q : ℕ) → q < 1024 → getD (load .flow) q 0 < 64
-  pub spans : (g : ℕ) → g < 64 → getD (load .occupancy) g 0 ≤ most
-  pub paths : Paths (load .lens) (load .links)
+-- the latest start of packet p: release + D − occupancy
+unfoldable pub latestAt : Load → List ℕ → List ℕ → ℕ → ℕ
+latestAt load release due p = getD release p 0 + getD due (flowAt load p) 0 - spanOf load (flowAt load p)
 
--- what the search for a start among the stretches asks
-pub record Place (load : Load) (release due marks : List ℕ) (b : Busy) (f p : ℕ) : Type 0 where
-  pub marks-long : length marks ≡ 2048
+-- where packet p goes among the placed packets
+unfoldable pub placeIn : Load → List ℕ → List ℕ → List ℕ → ℕ → List ℕ → ℕ → ℕ → Gap
+placeIn load release due by count times f p = gapIn load by count times (flowAt load p) f (getD release p 0) (latestAt load release due p)
+
+-- what finding it asks: a packet that fits in its time, settings in their ranges, and no occupancy above the longest
+pub record Placeable (load : Load) (release due marks by : List ℕ) (count : ℕ) (times : List ℕ) (longest f p : ℕ) : Type 0 where
   pub loaded : Loaded load
-  pub kept : Kept b
+  pub honest : Honest (load .lens) (load .links) marks
+  pub kept : Kept by count times
   pub packet : p < 1024
   pub some-step : 0 < f
   pub small-step : f ≤ 65536
-  pub soon : getD release p 0 ≤ most
-  pub fits : getD (load .occupancy) (flowAt load p) 0 ≤ getD due (flowAt load p) 0
-  pub due-soon : getD due (flowAt load p) 0 ≤ most
+  pub lasting : 0 < spanOf load (flowAt load p)
+  pub fits : spanOf load (flowAt load p) ≤ getD due (flowAt load p) 0
+  pub ends : getD release p 0 + getD due (flowAt load p) 0 ≤ most
+  pub longest-of : (g : ℕ) → g < 64 → spanOf load g ≤ longest
 
--- every stretch before a place is over at a time, even the longest
-pub record Over (by : List ℕ) (count : ℕ) (from : List ℕ) (time longest at : ℕ) : Type 0 where
+-- every placed packet before a place is over at a time, even the longest
+pub record Over (by : List ℕ) (count : ℕ) (times : List ℕ) (time longest at : ℕ) : Type 0 where
   pub within : at ≤ count
-  pub over : (j : ℕ) → j < at → entry by from j + longest ≤ time
+  pub over : (j : ℕ) → j < at → startOf by times j + longest ≤ time

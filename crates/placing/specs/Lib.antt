@@ -1,3 +1,4 @@
--- Placing one packet, and as the code does it.
+-- Placing one packet; the packets as the code has them in arrays, and placing one as the code does it.
 pub mod Placing
 pub mod Held
+pub mod Traffic

@@ -22,7 +22,7 @@ use Rattle.refusals.proofs.Accepted.{accepted-fair}
 use Rattle.model.proofs.Numbering.{packets-length}
 use Rattle.model.proofs.InTime.{packets-in-time}
 use Rattle.arrays.proofs.Entries.{period-entry, flow-entry}
-use Rattle.arrays.proofs.Reading.{model-count, packet-in, model-ready}
+use Rattle.arrays.proofs.Reading.{model-count, packet-in, model-in-bounds}
 use Rattle.planner.specs.Numbered.{packetsFor, arrayOf, planFor, Turned}
 use Rattle.planner.specs.declared.numbering.Plan.{Plan}
 
@@ -45,7 +45,7 @@ module _ (mesh : Mesh) (numbers : List ℕ) (fair : Fair mesh numbers) where
   pub model-turned : Turned (modelOf mesh numbers .flows) (modelOf mesh numbers .packets)
   unfolding modelOf
   model-turned = record {
-    ready = model-ready mesh numbers fair;
+    ready = model-in-bounds mesh numbers fair;
     lasting = λ p h.
         let l = below p h in
         let q = packetAt (packetsOf mesh numbers) p in

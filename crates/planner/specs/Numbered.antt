@@ -8,7 +8,7 @@ use Rattle.basics.specs.Lists.{padded}
 use Rattle.packet.specs.Packet.{Packet}
 use Rattle.model.specs.Packets.{packetsOf}
 use Rattle.refusals.specs.Refusals.{accepted, refusalOf}
-use Rattle.arrays.specs.Arrays.{packetIn, Ready}
+use Rattle.arrays.specs.Arrays.{packetIn, InBounds}
 use Rattle.model.specs.declared.answers.Answer.{Answer}
 use Rattle.arrays.specs.declared.build.Flows.{Flows}
 use Rattle.arrays.specs.declared.build.Packets.{Packets}
@@ -29,6 +29,6 @@ planFor answer ps = record { answer = answer; flow = arrayOf (λ (p : Packet). p
 
 -- what reading the turns off the arrays asks
 pub record Turned (flows : Flows) (packets : Packets) : Type 0 where
-  pub ready : Ready flows packets
+  pub ready : InBounds flows packets
   pub lasting : (p : ℕ) → p < packets .count → 0 < getD (flows .period) (getD (packets .flow) p 0) 0
   pub few : (p : ℕ) → p < packets .count → packetIn flows packets p .turn < 65536

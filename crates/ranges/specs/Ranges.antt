@@ -5,7 +5,7 @@ use Prim.Native.Nat.{ℕ, _≤_}
 use lib.ListN.{length}
 use Rattle.packet.specs.Packet.{mayStart}
 use Rattle.packet.specs.Table.{timeAt}
-use Rattle.arrays.specs.Arrays.{packetIn, Ready}
+use Rattle.arrays.specs.Arrays.{packetIn, InBounds}
 use Rattle.arrays.specs.declared.build.Flows.{Flows}
 use Rattle.arrays.specs.declared.build.Packets.{Packets}
 
@@ -15,5 +15,5 @@ strays flows packets table p = not (mayStart (packetIn flows packets p) (timeAt 
 
 -- what the walks ask: a model that the code can hold, and a table as long as its packets
 pub record Scan (flows : Flows) (packets : Packets) (table : List ℕ) : Type 0 where
-  pub ready : Ready flows packets
+  pub ready : InBounds flows packets
   pub long : packets .count ≤ length table

@@ -1,6 +1,6 @@
 -- The XY path as a path of two legs, and with it the laws of a path that a reader checks it by:
 -- it begins at L-source, ends at target-L, has m + 2 links and never more than 32, each link ends where the next begins,
--- every link exists in the mesh, and no link stands twice.
+-- every link exists in the mesh and has a number below 1,536, and no link stands twice.
 use mathlib.Core.Path.{_≡_, refl, sym, _∙_, ap, subst}
 use mathlib.Core.Bool.{true}
 use mathlib.Core.List.{List, [], _∷_, _++_, append-assoc}
@@ -11,12 +11,12 @@ use lib.ListN.{length, getD, length-append}
 use lib.Seq.{getD-at}
 use Rattle.basics.proofs.Each.{Each, Once, each-at, once-at}
 use Rattle.mesh.specs.Node.{placeOf, apart, distanceOf, Inside}
-use Rattle.mesh.specs.Link.{linkOf, steps, stepOf, endOf, exists}
+use Rattle.mesh.specs.Link.{linkOf, allLinks, steps, stepOf, endOf, exists}
 use Rattle.routes.specs.Route.{towards, alongRow, alongColumn, corner, routeOf, Leads}
 use Rattle.mesh.specs.declared.nodes.Place.{Place}
 use Rattle.mesh.proofs.Bounds.{apart-lt}
 use Rattle.routes.proofs.Legs.{either-way, row-stays, column-stays, towards-near}
-use Rattle.mesh.proofs.Numbers.{at-place}
+use Rattle.mesh.proofs.Numbers.{at-place, exists-number}
 use Rattle.mesh.proofs.Steps.{east, west, south, north, end-column, end-row}
 use Rattle.routes.proofs.TwoLegs.{TwoLegs, ended, linksOver, long, leads, all-exist}
 use Rattle.routes.proofs.NoneTwice.{none-twice}
@@ -159,6 +159,10 @@ module _ (columns rows source target : ℕ) (nodes : Nodes columns rows source t
   route-exists i h =
       each-at (λ (l : ℕ). exists columns rows l ≡ true) (routeOf columns source target)
       (subst (Each (λ (l : ℕ). exists columns rows l ≡ true)) (sym over) (all-exist (xy columns rows source target nodes))) i h
+
+  -- the numbers of its links are below 1,536
+  pub route-numbers : (i : ℕ) → i < length (routeOf columns source target) → getD (routeOf columns source target) i 0 < allLinks
+  route-numbers i h = exists-number columns rows _ (nodes .few-columns) (nodes .few-rows) (route-exists i h)
 
   -- no link stands on it twice
   pub route-once : (i j : ℕ) → i < j → j < length (routeOf columns source target)

@@ -18,7 +18,7 @@ use Rattle.limits.specs.Limits.{outOfRange}
 use Rattle.refusals.specs.Refusals.{refuseIf, refusalOf}
 use Rattle.model.specs.Answers.{refusedBy}
 use Rattle.model.specs.Fair.{Fair}
-use Rattle.arrays.specs.Arrays.{modelOf}
+use Rattle.arrays.specs.Arrays.{modelOf, packetsRead}
 use Rattle.model.specs.declared.flows.Mesh.{Mesh}
 use Rattle.model.specs.declared.answers.Refusal.{Refusal}
 use Rattle.arrays.specs.declared.build.Model.{Model}
@@ -27,11 +27,10 @@ use Rattle.limits.proofs.Past.{inside}
 use Rattle.refusals.proofs.Order.{refuse-none, or-next, or-stays}
 use Rattle.refusals.proofs.Accepted.{accepted-fair, accepted-between}
 use Rattle.model.proofs.Numbering.{packets-length}
-use Rattle.arrays.proofs.Reading.{model-count}
+use Rattle.arrays.proofs.Reading.{model-count, packets-read}
 use Rattle.packet.specs.Table.{none, placed}
 use Rattle.passes.specs.Passes.{Found, skippedIn, lowestSkipped}
-use Rattle.keys.specs.Slack.{slackAt}
-use Rattle.passes.specs.Search.{foundOf, Searched}
+use Rattle.passes.specs.Search.{foundOf}
 use Rattle.passes.specs.declared.repeat.Outcome.{Outcome}
 use Rattle.reports.specs.Reports.{reportOf}
 use Rattle.search.specs.Answering.{badSettings, settingsRefusal, badTable, searchRefusal, searchOf, foundAnswer, answerOf, tableAfter}
@@ -43,6 +42,10 @@ module _ (mesh : Mesh) (f g : ℕ) (numbers table : List ℕ) where
   -- what the model and the settings refuse
   abbrev start : Refusal
   start = refusalOf mesh (settingsRefusal f g) numbers
+
+  -- so it is as the code asks: the settings first, then the model
+  pub judged : {first settings : Refusal} → first ≡ refusalOf mesh settings numbers → settings ≡ settingsRefusal f g → first ≡ refusalOf mesh (settingsRefusal f g) numbers
+  judged e d = e ∙ ap (λ (r : Refusal). refusalOf mesh r numbers) d
 
   -- a refusal is the answer, and nothing is written
   answers-refused : (searchRefusal mesh f g numbers table .number ≡ 0 → ⊥)
@@ -81,8 +84,8 @@ module _ (mesh : Mesh) (f g : ℕ) (numbers table : List ℕ) where
     unfolding settingsRefusal
     settings = refuse-none (badSettings f g) 3 0 (omega arith) (accepted-between mesh (settingsRefusal f g) numbers e)
 
-    -- so the model holds its packets
-    pub entry-modelled : Modelled (packetsOf mesh numbers) (modelOf mesh numbers) f g
+    -- so the model is what the search asks
+    pub entry-modelled : Modelled (modelOf mesh numbers) f g
     unfolding badSettings
     entry-modelled =
         let both = neither (outOfRange 1 65536 f) (outOfRange 1 16 g) settings in
@@ -134,22 +137,23 @@ report-is numbers ps found fd hyper n e eh el en =
 
 module _ (mesh : Mesh) (f g : ℕ) (numbers table : List ℕ) (e : refusalOf mesh (settingsRefusal f g) numbers .number ≡ 0) (model : Model)
     (is : model ≡ modelOf mesh numbers) where
-  -- the model of the code holds the packets
-  pub model-holds : Modelled (packetsOf mesh numbers) model f g
-  model-holds = subst (λ (m : Model). Modelled (packetsOf mesh numbers) m f g) (sym is) (entry-modelled mesh f g numbers table e)
+  -- the model of the code is what the search asks
+  pub model-holds : Modelled model f g
+  model-holds = subst (λ (m : Model). Modelled m f g) (sym is) (entry-modelled mesh f g numbers table e)
 
   -- how many packets it has
   pub model-packets : model .packets .count ≡ packetsIn numbers
   model-packets = ap (λ (m : Model). m .packets .count) is ∙ entry-count mesh f g numbers table e
 
   -- found: the answer, and the table
-  pub entry-found : (found : Outcome) → Searched (packetsOf mesh numbers) (slackAt (packetsOf mesh numbers)) f g found → model .packets .count ≤ length table
+  pub entry-found : (found : Outcome) → foundOf (model .packets .count) found ≡ searchOf (packetsRead model) f g → model .packets .count ≤ length table
       → (reportOf found (model .hyper) (model .packets .count) ≡ answerOf mesh f g numbers table)
       × (take (model .packets .count) (found .times) ++ drop (model .packets .count) table ≡ tableAfter mesh f g numbers table)
   unfolding modelOf foundOf
   entry-found found s h =
       let n : model .packets .count ≡ length (packetsOf mesh numbers) = model-packets ∙ sym (packets-length mesh numbers) in
-      let same : foundOf (model .packets .count) found ≡ searchOf (packetsOf mesh numbers) f g = ap (λ (k : ℕ). foundOf k found) n ∙ s .same in
+      let read : packetsRead model ≡ packetsOf mesh numbers = ap packetsRead is ∙ packets-read mesh numbers (entry-fair mesh f g numbers table e) in
+      let same : foundOf (model .packets .count) found ≡ searchOf (packetsOf mesh numbers) f g = s ∙ ap (λ (ps : List Packet). searchOf ps f g) read in
       let enough : packetsIn numbers ≤ length table = omega (arith, model-packets) in (
         report-is numbers (packetsOf mesh numbers) found (searchOf (packetsOf mesh numbers) f g) (model .hyper) (model .packets .count) same
             (ap (λ (m : Model). m .hyper) is) n model-packets

@@ -1,33 +1,42 @@
--- A model that is not refused holds its packets, and so do the arrays that its paths are spread into.
--- In order: what an array reads as behind what it was filled with; the packets of the model; the paths in one array; and what the
--- passes ask.
-use mathlib.Core.Path.{_≡_, sym, _∙_, ap, subst}
+-- A model that is not refused is what the search asks, and what the passes read of it are its packets.
+-- In order: what an array reads as behind what it was filled with; what the search asks of the model; the paths in one array; what the
+-- passes ask; and that they leave what the search of the model's packets leaves.
+use mathlib.Core.Path.{_≡_, refl, sym, _∙_, ap, subst}
 use mathlib.Core.List.{List, [], _++_, map}
-use Prim.Native.Nat.{ℕ, _+_, _-_, _*_, _≤_, _<_}
+use Prim.Native.Nat.{ℕ, _+_, _-_, _*_, _/_, _%_, _≤_, _<_}
 use native.Mathlib.Nat.{lt-of-not-le}
 use native.Mathlib.Decide.{decLe}
 use native.Mathlib.Omega.{arith}
-use lib.ListN.{length, getD, take, drop, replicate, length-drop, length-map, getD-replicate}
+use lib.ListN.{length, getD, take, drop, replicate, length-drop, length-map, getD-replicate, List·getD-eq-default}
 use lib.Seq.{length-take-le, getD-take, getD-drop, getD-append-add, ext-getD}
 use Rattle.basics.specs.Lists.{tabulate, padded}
-use Rattle.basics.proofs.Lists.{tabulate-length, padded-length}
+use Rattle.basics.proofs.Lists.{tabulate-length, padded-length, padded-at}
+use Rattle.mesh.specs.Link.{allLinks}
 use Rattle.routes.specs.Route.{pathOf, linksOf}
 use Rattle.routes.specs.declared.paths.Path.{Path}
+use Rattle.routes.proofs.XY.{route-numbers}
 use Rattle.hyper.specs.Hyper.{most}
-use Rattle.packet.specs.Packet.{Packet}
-use Rattle.model.specs.Flows.{flowsIn, linksOfFlow, occupancyIn}
+use Rattle.packet.specs.Packet.{Packet, absent}
+use Rattle.packet.specs.Table.{packetAt}
+use Rattle.model.specs.Flows.{sourceOf, targetOf, flowsIn, linksOfFlow, occupancyIn}
 use Rattle.model.specs.Packets.{packetsIn, packetOf, packetsOf}
 use Rattle.model.specs.Fair.{Fair}
-use Rattle.arrays.specs.Arrays.{flowsUpTo, arraysOf, modelOf, noPath, packetIn}
+use Rattle.arrays.specs.Arrays.{flowsUpTo, arraysOf, modelOf, noPath, packetIn, packetsRead}
 use Rattle.model.specs.declared.flows.Mesh.{Mesh}
 use Rattle.arrays.specs.declared.build.Model.{Model}
 use Rattle.model.proofs.Numbering.{packets-length}
 use Rattle.model.proofs.InTime.{InTime, turns-low, fair-timed, packet-in-time, packets-in-time}
 use Rattle.arrays.proofs.Entries.{occupancy-entry, path-entry, flow-entry}
-use Rattle.arrays.proofs.Reading.{model-count, packet-in}
-use Rattle.stretches.specs.Busy.{pathIn}
-use Rattle.placing.specs.Held.{loadOf, flowAt, Held}
-use Rattle.passes.specs.State.{Ready}
+use Rattle.arrays.proofs.Reading.{read-count, read-at, model-count, packet-in}
+use Rattle.kept.specs.Load.{flowAt, spanOf, pathIn}
+use Rattle.placing.specs.Traffic.{packetHeld, packetsHeld}
+use Rattle.placing.specs.declared.traffic.Traffic.{Traffic}
+use Rattle.placing.proofs.Bridging.{packets-count, packets-at}
+use Rattle.passes.specs.Passes.{searchFrom}
+use Rattle.passes.specs.Stand.{Ready}
+use Rattle.passes.specs.Search.{foundOf, Searched}
+use Rattle.passes.specs.declared.repeat.Outcome.{Outcome}
+use Rattle.passes.proofs.Alike.{Alike, search-alike}
 use Rattle.search.specs.Spread.{Spread, Lens, Modelled}
 use Rattle.search.proofs.Grouping.{fair-keyed, fair-grouped}
 
@@ -94,18 +103,41 @@ module _ (mesh : Mesh) (numbers : List ℕ) (fair : Fair mesh numbers) where
             )
       ]
 
-  -- the model holds its packets
-  pub fair-modelled : (f g : ℕ) → 0 < f → f ≤ 65536 → 0 < g → g ≤ 16 → Modelled (packetsOf mesh numbers) (modelOf mesh numbers) f g
+  -- the links of a path have numbers of links
+  path-numbers : (q : ℕ) → q < flowsIn numbers → (a : ℕ) → a < 32 → getD (padded 32 0 (linksOfFlow mesh numbers q)) a 0 < allLinks
+  unfolding linksOfFlow
+  path-numbers q h a l =
+      let m = fair .fair-mesh in
+      let n = fair .flows q h .nodes in
+      let links = linksOfFlow mesh numbers q in
+      elim (decLe (length (linksOfFlow mesh numbers q)) a) [
+        | no b ↦
+            let number =
+            route-numbers (mesh .columns) (mesh .rows) (sourceOf numbers q) (targetOf numbers q) record {
+              some-columns = m .columns-low;
+              few-columns = m .columns-high;
+              few-rows = m .rows-high;
+              source-in = n .source-in;
+              target-in = n .target-in;
+            } a (lt-of-not-le b) in
+            omega (arith, padded-at 32 0 links a 0 (lt-of-not-le b), number)
+        | yes b ↦ omega (arith, padded-past 32 0 links a 0 b l)
+      ]
+
+  -- the model is what the search asks
+  pub fair-modelled : (f g : ℕ) → 0 < f → f ≤ 65536 → 0 < g → g ≤ 16 → Modelled (modelOf mesh numbers) f g
   unfolding pathOf
   fair-modelled f g a b c d =
-      let below : (p : ℕ) → p < length (packetsOf mesh numbers) → p < packetsIn numbers = λ p h. omega (arith, packets-length mesh numbers) in
+      let in-time : (p : ℕ) → p < modelOf mesh numbers .packets .count
+      → InTime mesh numbers (packetIn (modelOf mesh numbers .flows) (modelOf mesh numbers .packets) p) =
+      λ p h.
+      let l : p < packetsIn numbers = omega (arith, model-count mesh numbers fair) in
+      subst (InTime mesh numbers) (sym (packet-in mesh numbers fair p l)) (packets-in-time mesh numbers fair p l)
+      in
       record {
-        few = omega (arith, packets-length mesh numbers, fair .packets-high);
-        count = model-count mesh numbers fair ∙ sym (packets-length mesh numbers);
-        read = λ p h. sym (packet-in mesh numbers fair p (below p h));
-        busy = λ p h. packets-in-time mesh numbers fair p (below p h) .busy;
-        fits = λ p h. packets-in-time mesh numbers fair p (below p h) .fits;
-        ends = λ p h. packets-in-time mesh numbers fair p (below p h) .deadline-small;
+        busy = λ p h. in-time p h .busy;
+        fits = λ p h. in-time p h .fits;
+        ends = λ p h. in-time p h .deadline-small;
         keyed = fair-keyed mesh numbers fair;
         grouped = fair-grouped mesh numbers fair;
         flows = flow-small;
@@ -114,6 +146,9 @@ module _ (mesh : Mesh) (numbers : List ℕ) (fair : Fair mesh numbers) where
             each-path (λ (r : Path). length (r .links) ≡ 32) (λ q h. padded-length 32 0 (linksOfFlow mesh numbers q) (path-short q h))
             (padded-length 32 0 [] (omega arith));
         short = each-path (λ (r : Path). r .len ≤ 32) path-short (omega arith);
+        numbers =
+            each-path (λ (r : Path). (a : ℕ) → a < 32 → getD (r .links) a 0 < allLinks) path-numbers
+            (λ a l. omega (arith, padded-past {X = ℕ} 32 0 [] a 0 (omega arith) l));
         some-step = a;
         small-step = b;
         low = c;
@@ -143,37 +178,86 @@ module _ (paths : List Path) (links lens : List ℕ) (spread : Spread paths link
       ∙ sym (getD-take (getD paths q noPath .len) (drop (q * 32) links) a 0 k))
       ∙ ap (λ (m : ℕ). take m (drop (q * 32) links)) (sym n)
 
--- what the passes ask
-module _ {ps : List Packet} {model : Model} {f g : ℕ} (m : Modelled ps model f g) {links lens : List ℕ}
-    (spread : Spread (model .flows .path) links) (measured : Lens (model .flows .path) lens) where
-  -- the arrays hold the packets
-  held : Held ps (loadOf (model .packets .flow) (model .flows .occupancy) lens links) (model .packets .release) (model .flows .due)
-  unfolding packetIn flowAt
-  held = record {
-    few = m .few;
-    releases = λ p h. ap (λ (r : Packet). r .release) (m .read p h);
-    deadlines = λ p h. ap (λ (r : Packet). r .deadline) (m .read p h);
-    spans = λ p h. ap (λ (r : Packet). r .occupancy) (m .read p h);
-    paths = λ p h.
-        let q = m .flows p (omega (arith, m .few)) in
-        ap (λ (r : Packet). r .path) (m .read p h)
-        ∙ spread-path (model .flows .path) links lens spread measured (getD (model .packets .flow) p 0) q (m .whole _ q) (m .short _ q);
-    busy = m .busy;
-  }
+-- what the passes read of a model, with the links in one array
+abbrev pub trafficOf : Model → ℕ → List ℕ → List ℕ → Traffic
+trafficOf model longest lens links = record {
+  count = model .packets .count;
+  flow = model .packets .flow;
+  release = model .packets .release;
+  occupancy = model .flows .occupancy;
+  due = model .flows .due;
+  longest = longest;
+  lens = lens;
+  links = links;
+}
 
-  pub modelled-ready : Ready ps (loadOf (model .packets .flow) (model .flows .occupancy) lens links) (model .packets .release) (model .flows .due) f g
+module _ {model : Model} {f g : ℕ} (m : Modelled model f g) {longest : ℕ} {lens links : List ℕ}
+    (reaches : (q : ℕ) → q < 64 → getD (model .flows .occupancy) q 0 ≤ longest) (measured : Lens (model .flows .path) lens)
+    (spread : Spread (model .flows .path) links) where
+  -- every place of the links holds the number of a link
+  link-numbers : (i : ℕ) → getD links i 0 < allLinks
+  link-numbers i =
+      elim (decLe 2048 i) [
+        | yes a ↦ omega (arith, List·getD-eq-default links 0 {n = i} (omega (arith, spread .long)))
+        | no a ↦
+            let l : i < 2048 = lt-of-not-le a in
+            let at : i / 32 * 32 + i % 32 ≡ i = omega arith in
+            omega (
+              arith,
+              ap (λ (k : ℕ). getD links k 0) at,
+              spread .links-at (i / 32) (i % 32) (omega arith) (omega arith),
+              m .numbers (i / 32) (omega arith) (i % 32) (omega arith),
+            )
+      ]
+
+  -- what the passes ask of the packets
+  pub modelled-ready : Ready (trafficOf model longest lens links) f g
+  unfolding packetIn flowAt spanOf
   modelled-ready = record {
-    held = held;
+    few = m .grouped .few;
     loaded = record {
       flows = m .flows;
       spans = m .spans;
-      paths = record { short = λ q h. omega (arith, measured .lens-at q h, m .short q h); long = spread .long };
+      paths = record { short = λ q h. omega (arith, measured .lens-at q h, m .short q h); long = spread .long; numbers = link-numbers };
     };
     some-step = m .some-step;
     small-step = m .small-step;
     low = m .low;
     high = m .high;
-    soon = λ p h. omega (arith, held .releases p h, m .fits p h, m .ends p h);
-    fits = λ p h. omega (arith, held .releases p h, held .deadlines p h, held .spans p h, m .fits p h);
-    ends = λ p h. omega (arith, held .deadlines p h, m .ends p h);
+    lasting = m .busy;
+    fits = λ p h. omega (arith, m .fits p h);
+    ends = m .ends;
+    longest-of = reaches;
   }
+
+  -- the packets that the passes read are the model's, but for their turns
+  pub modelled-alike : Alike (packetsHeld (trafficOf model longest lens links)) (packetsRead model)
+  unfolding packetHeld packetIn flowAt spanOf packetAt
+  modelled-alike =
+      let t = trafficOf model longest lens links in
+      let n = packets-count t in
+      let n′ = read-count model in
+      let same : (X : Type 0) (k : Packet → X) → ((p : ℕ) → p < model .packets .count → k (packetHeld t p) ≡ k (packetIn (model .flows) (model .packets) p))
+      → (p : ℕ) → k (packetAt (packetsHeld t) p) ≡ k (packetAt (packetsRead model) p) =
+      λ X k each p.
+      elim (decLe (model .packets .count) p) [
+        | no a ↦
+            ap k (packets-at t p (lt-of-not-le a)) ∙ each p (lt-of-not-le a) ∙ ap k (sym (read-at model p (lt-of-not-le a)))
+        | yes a ↦
+            ap k (List·getD-eq-default (packetsHeld t) absent {n = p} (omega (arith, n)) ∙ sym (List·getD-eq-default (packetsRead model) absent {n = p} (omega (arith, n′))))
+      ] in
+      record {
+        long = n ∙ sym n′;
+        releases = same ℕ (λ r. r .release) (λ p h. refl);
+        deadlines = same ℕ (λ r. r .deadline) (λ p h. refl);
+        spans = same ℕ (λ r. r .occupancy) (λ p h. refl);
+        paths = same (List ℕ) (λ r. r .path) (λ p h.
+            let q = m .flows p (omega (arith, m .grouped .few)) in
+            sym (spread-path (model .flows .path) links lens spread measured (getD (model .packets .flow) p 0) q (m .whole _ q) (m .short _ q)));
+      }
+
+  -- what the passes leave is what the search of the model's packets leaves, from the same list
+  pub modelled-search : {list : List ℕ} {r : Outcome} → Searched (trafficOf model longest lens links) f g list r
+      → (first : List ℕ) → take (model .packets .count) list ≡ first → foundOf (model .packets .count) r ≡ searchFrom first (packetsRead model) f g
+  modelled-search {list} s first e =
+      s .same ∙ search-alike modelled-alike f g (take (model .packets .count) list) ∙ ap (λ (l : List ℕ). searchFrom l (packetsRead model) f g) e

@@ -31,7 +31,8 @@ use Rattle.model.proofs.InTime.{packets-in-time}
 use Rattle.passes.specs.Passes.{Found, skippedIn, lowestSkipped}
 use Rattle.keys.specs.Slack.{slackAt}
 use Rattle.passes.proofs.Sound.{Safe}
-use Rattle.passes.proofs.Complete.{search-length, search-safe, complete-passes, skipped-holds}
+use Rattle.packet.proofs.Placed.{skipped-holds}
+use Rattle.passes.proofs.Complete.{search-length, search-safe, complete-passes}
 use Rattle.reports.specs.Reports.{numberFor, placeFor}
 use Rattle.search.specs.Answering.{settingsRefusal, badTable, searchRefusal, searchOf, foundAnswer, answerOf, tableAfter}
 use Rattle.basics.proofs.Sums.{count-same}

@@ -1,10 +1,10 @@
 -- The slacks of the flows as the code stores them are those of their packets, so the list is in order of least slack.
-use mathlib.Core.Path.{_≡_, _∙_, ap}
+use mathlib.Core.Path.{_≡_, sym, _∙_, ap}
 use mathlib.Core.List.{List}
 use Prim.Native.Nat.{ℕ, _<_}
 use native.Mathlib.Nat.{zero-add}
 use native.Mathlib.Omega.{arith}
-use lib.ListN.{length, getD, replicate}
+use lib.ListN.{length, getD}
 use Rattle.basics.specs.Lists.{tabulate}
 use Rattle.basics.proofs.Lists.{tabulate-length, tabulate-at, padded-length, padded-at}
 use Rattle.packet.specs.Packet.{Packet}
@@ -12,15 +12,13 @@ use Rattle.order.specs.Order.{sorted}
 use Rattle.order.specs.Lists.{keyIn}
 use Rattle.order.specs.Grouped.{flowKey}
 use Rattle.order.proofs.Ordering.{sorted-same}
-use Rattle.arrays.specs.Arrays.{packetIn}
+use Rattle.arrays.specs.Arrays.{packetIn, packetsRead}
+use Rattle.arrays.proofs.Reading.{read-count, read-at}
 use Rattle.arrays.specs.declared.build.Model.{Model}
-use Rattle.passes.specs.Passes.{passesFrom, ceiling, searchBy}
-use Rattle.passes.specs.Search.{Searched}
-use Rattle.passes.specs.declared.repeat.Outcome.{Outcome}
 use Rattle.keys.specs.Slack.{slackOf, slackAt, slackIn, slacksOf}
-use Rattle.search.specs.Spread.{keysOf, Modelled}
+use Rattle.search.specs.Spread.{Modelled}
 
-module _ {ps : List Packet} {model : Model} {f g : ℕ} (m : Modelled ps model f g) where
+module _ {model : Model} {f g : ℕ} (m : Modelled model f g) where
   -- there are as many slacks as flows
   slacks-count : length (tabulate (slackIn (model .flows .due) (model .flows .occupancy)) 0 (model .flows .count)) ≡ model .flows .count
   slacks-count = tabulate-length (slackIn (model .flows .due) (model .flows .occupancy)) 0 (model .flows .count)
@@ -33,53 +31,26 @@ module _ {ps : List Packet} {model : Model} {f g : ℕ} (m : Modelled ps model f
       (omega (arith, slacks-count, m .keyed .few))
 
   -- the slack of a packet is that of its flow
-  pub slack-is : (p : ℕ) → p < length ps → flowKey (slacksOf model) (model .packets .flow) p ≡ slackAt ps p
+  slack-is : (p : ℕ) → p < model .packets .count → flowKey (slacksOf model) (model .packets .flow) p ≡ slackAt (packetsRead model) p
   unfolding flowKey keyIn slackAt slackOf slackIn slacksOf packetIn
   slack-is p h =
       let slack : ℕ → ℕ = slackIn (model .flows .due) (model .flows .occupancy) in
       let own : ℕ = getD (model .packets .flow) p 0 in
-      let below : getD (model .packets .flow) p 0 < model .flows .count = m .grouped .flow-in p (omega (arith, m .count)) in
+      let below : getD (model .packets .flow) p 0 < model .flows .count = m .grouped .flow-in p h in
       padded-at 1024 0 (tabulate slack 0 (model .flows .count)) own 0 (omega (arith, slacks-count))
       ∙ tabulate-at slack 0 (model .flows .count) own 0 below
       ∙ ap slack (zero-add own)
       ∙ omega (
         arith,
-        ap (λ (r : Packet). r .deadline) (m .read p h),
-        ap (λ (r : Packet). r .release) (m .read p h),
-        ap (λ (r : Packet). r .occupancy) (m .read p h),
+        ap (λ (r : Packet). r .deadline) (read-at model p h),
+        ap (λ (r : Packet). r .release) (read-at model p h),
+        ap (λ (r : Packet). r .occupancy) (read-at model p h),
       )
 
   -- so the packets in order of their flows' slacks are in order of least slack
-  pub slack-order : sorted (flowKey (slacksOf model) (model .packets .flow)) 0 (length ps) ≡ sorted (slackAt ps) 0 (length ps)
-  slack-order = sorted-same (flowKey (slacksOf model) (model .packets .flow)) (slackAt ps) 0 (length ps) (λ p h k. slack-is p (omega arith))
-
-  -- the packets' keys fill 1,024 places
-  pub keys-long : length (keysOf (slacksOf model) (model .packets .flow) (model .packets .count)) ≡ 1024
-  unfolding keysOf
-  keys-long =
-      let key : ℕ → ℕ = flowKey (slacksOf model) (model .packets .flow) in
-      padded-length 1024 0 (tabulate key 0 (model .packets .count)) (omega (arith, tabulate-length key 0 (model .packets .count), m .grouped .few))
-
-  -- each is that of the packet's flow
-  key-is : (p : ℕ) → p < length ps
-      → keyIn (keysOf (slacksOf model) (model .packets .flow) (model .packets .count)) p ≡ flowKey (slacksOf model) (model .packets .flow) p
-  unfolding keyIn keysOf
-  key-is p h =
-      let key : ℕ → ℕ = flowKey (slacksOf model) (model .packets .flow) in
-      let count = model .packets .count in
-      padded-at 1024 0 (tabulate key 0 count) p 0 (omega (arith, m .count, tabulate-length key 0 count))
-      ∙ tabulate-at key 0 count p 0 (omega (arith, m .count)) ∙ ap key (zero-add p)
-
-  -- so what the passes leave is what the search leaves in order of least slack
-  pub searched-slack : {r : Outcome} → Searched ps (keyIn (keysOf (slacksOf model) (model .packets .flow) (model .packets .count))) f g r
-      → Searched ps (slackAt ps) f g r
-  unfolding searchBy
-  searched-slack found =
-      let keys = keysOf (slacksOf model) (model .packets .flow) (model .packets .count) in
-      record {
-        same =
-            found .same
-            ∙ ap (λ (l : List ℕ). passesFrom (ceiling (length ps) g) ps f g l (replicate (length ps) 0) 0 0)
-            (sorted-same (keyIn keys) (flowKey (slacksOf model) (model .packets .flow)) 0 (length ps) (λ p h k. key-is p (omega arith)) ∙ slack-order);
-        times-long = found .times-long;
-      }
+  pub slack-order : (key : List ℕ) → key ≡ slacksOf model
+      → sorted (flowKey key (model .packets .flow)) 0 (model .packets .count) ≡ sorted (slackAt (packetsRead model)) 0 (length (packetsRead model))
+  slack-order key e =
+      ap (λ (key : List ℕ). sorted (flowKey key (model .packets .flow)) 0 (model .packets .count)) e
+      ∙ sorted-same (flowKey (slacksOf model) (model .packets .flow)) (slackAt (packetsRead model)) 0 (model .packets .count) (λ p h k. slack-is p (omega arith))
+      ∙ ap (sorted (slackAt (packetsRead model)) 0) (sym (read-count model))

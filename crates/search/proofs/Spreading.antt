@@ -1,7 +1,7 @@
--- The paths in one array: what stands in each flow's places after one more path is stored.
+-- The paths in one array: what stands in each flow's places after one more path is stored; and the longest occupancy.
 use mathlib.Core.Path.{_≡_, sym, _∙_, ap, subst}
 use mathlib.Core.List.{List, _++_}
-use Prim.Native.Nat.{ℕ, _+_, _*_, _≤_, _<_}
+use Prim.Native.Nat.{ℕ, _+_, _*_, _≤_, _<_, max}
 use native.Mathlib.Decide.{ℕ-discrete}
 use native.Mathlib.Omega.{arith}
 use lib.ListN.{length, getD, set, take, drop, length-set, List·getD-append}
@@ -68,3 +68,12 @@ measuring-next paths lens f s h = record {
         | no e ↦ getD-set-other lens f g _ 0 e ∙ s .lens-at g (omega (arith, e))
       ];
 }
+
+-- none of the entries before f is above a number: so it is with the next entry and the larger of the two
+pub reached-next : (entries : List ℕ) {f most : ℕ} → ((g : ℕ) → g < f → getD entries g 0 ≤ most) → {larger : ℕ} → larger ≡ max most (getD entries f 0)
+    → (g : ℕ) → g < f + 1 → getD entries g 0 ≤ larger
+reached-next entries {f} reached e g h =
+    elim (ℕ-discrete g f) [
+      | yes same ↦ rw same (omega arith)
+      | no other ↦ omega (arith, reached g (omega (arith, other)))
+    ]

@@ -3,12 +3,10 @@ use mathlib.Core.Path.{_≡_}
 use mathlib.Core.List.{List}
 use Prim.Native.Nat.{ℕ, _+_, _*_, _≤_, _<_}
 use lib.ListN.{length, getD}
-use Rattle.basics.specs.Lists.{tabulate, padded}
+use Rattle.mesh.specs.Link.{allLinks}
 use Rattle.routes.specs.declared.paths.Path.{Path}
 use Rattle.hyper.specs.Hyper.{most}
-use Rattle.packet.specs.Packet.{Packet}
-use Rattle.packet.specs.Table.{packetAt}
-use Rattle.order.specs.Grouped.{flowKey, Grouped}
+use Rattle.order.specs.Grouped.{Grouped}
 use Rattle.arrays.specs.Arrays.{noPath, packetIn}
 use Rattle.arrays.specs.declared.build.Model.{Model}
 use Rattle.keys.specs.Slack.{Keyed}
@@ -22,24 +20,19 @@ pub record Spread (paths : List Path) (links : List ℕ) : Type 0 where
 pub record Lens (paths : List Path) (lens : List ℕ) : Type 0 where
   pub lens-at : (g : ℕ) → g < 64 → getD lens g 0 ≡ getD paths g noPath .len
 
--- the key of each of n packets, that of its flow
-unfoldable pub keysOf : List ℕ → List ℕ → ℕ → List ℕ
-keysOf key flow n = padded 1024 0 (tabulate (flowKey key flow) 0 n)
-
--- a model holds a list of packets: each is read off its arrays, in time, flow after flow, and the settings are in their ranges
-pub record Modelled (ps : List Packet) (model : Model) (f g : ℕ) : Type 0 where
-  pub few : length ps ≤ 1024
-  pub count : model .packets .count ≡ length ps
-  pub read : (p : ℕ) → p < length ps → packetAt ps p ≡ packetIn (model .flows) (model .packets) p
-  pub busy : (p : ℕ) → p < length ps → 0 < packetAt ps p .occupancy
-  pub fits : (p : ℕ) → p < length ps → packetAt ps p .release + packetAt ps p .occupancy ≤ packetAt ps p .deadline
-  pub ends : (p : ℕ) → p < length ps → packetAt ps p .deadline ≤ most
+-- what the search asks of a model: packets in time, flow after flow, paths of links, and settings in their ranges
+pub record Modelled (model : Model) (f g : ℕ) : Type 0 where
+  pub busy : (p : ℕ) → p < model .packets .count → 0 < packetIn (model .flows) (model .packets) p .occupancy
+  pub fits : (p : ℕ) → p < model .packets .count
+      → packetIn (model .flows) (model .packets) p .release + packetIn (model .flows) (model .packets) p .occupancy ≤ packetIn (model .flows) (model .packets) p .deadline
+  pub ends : (p : ℕ) → p < model .packets .count → packetIn (model .flows) (model .packets) p .deadline ≤ most
   pub keyed : Keyed model
   pub grouped : Grouped (model .packets .flow) (model .flows .count) (model .packets .count)
   pub flows : (q : ℕ) → q < 1024 → getD (model .packets .flow) q 0 < 64
   pub spans : (q : ℕ) → q < 64 → getD (model .flows .occupancy) q 0 ≤ most
   pub whole : (q : ℕ) → q < 64 → length (getD (model .flows .path) q noPath .links) ≡ 32
   pub short : (q : ℕ) → q < 64 → getD (model .flows .path) q noPath .len ≤ 32
+  pub numbers : (q : ℕ) → q < 64 → (a : ℕ) → a < 32 → getD (getD (model .flows .path) q noPath .links) a 0 < allLinks
   pub some-step : 0 < f
   pub small-step : f ≤ 65536
   pub low : 0 < g

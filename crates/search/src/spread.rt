@@ -1,20 +1,19 @@
 // The passes over a model: its paths go into one array of links, 32 places to a flow.
 use arrays::Model;
 use keys::slacks;
+use order::by_flow;
 use passes::Outcome;
 use passes::rounds;
+use placing::Traffic;
 use routes::Path;
 ghost use mathlib.Core.Path.{_≡_};
-ghost use mathlib.Core.List.{List};
-ghost use Prim.Native.Nat.{ℕ, _<_, _*_};
+ghost use Prim.Native.Nat.{ℕ, _<_, _≤_, _*_, max};
 ghost use lib.ListN.{length, getD};
 ghost use lib.Seq.{paste};
-ghost use Rattle.packet.specs.Packet.{Packet};
-ghost use Rattle.order.specs.Grouped.{Grouped};
-ghost use Rattle.passes.specs.Search.{Searched};
-ghost use Rattle.arrays.specs.Arrays.{noPath};
-ghost use Rattle.keys.specs.Slack.{slackAt};
-ghost use Rattle.search.specs.Spread.{Spread, Lens, keysOf, Modelled};
+ghost use Rattle.passes.specs.Search.{foundOf};
+ghost use Rattle.arrays.specs.Arrays.{noPath, packetsRead};
+ghost use Rattle.search.specs.Answering.{searchOf};
+ghost use Rattle.search.specs.Spread.{Spread, Lens, Modelled};
 
 // The links with those of one more path, in its flow's places.
 fn with_path(links: [u16; 2048], f: usize, path: Path) -> [u16; 2048]
@@ -54,43 +53,46 @@ fn lens_of(paths: [Path; 64]) -> [usize; 64]
     lens
 }
 
-// The key of each packet, that of its flow; 0 past them.
-fn keys_of(key: [u64; 1024], flow: [u16; 1024], n: usize) -> [u64; 1024]
-    requires { ⌜ Grouped flow 64 n ⌝ }
-    ensures { λ r. ⌜ r ≡ keysOf key flow n ⌝ }
+// The larger of two numbers.
+fn larger(a: u32, b: u32) -> u32
+    ensures { λ r. ⌜ r ≡ max a b ⌝ }
 {
-    let mut keys = [0u64; 1024];
-    for p in 0..n {
-        keys[p] = key[flow[p] as usize];
-    }
-    keys
+    if a <= b { b } else { a }
 }
 
-// The passes over a model that is not refused.
+// The longest of the occupancies: none is above it.
+fn longest_of(occupancy: [u32; 64]) -> u32
+    ensures { λ r. ⌜ ((g : ℕ) → g < 64 → getD occupancy g 0 ≤ r) ⌝ }
+{
+    let mut longest = 0;
+    for f in 0..64usize {
+        longest = larger(longest, occupancy[f]);
+    }
+    longest
+}
+
+// The passes over a model that is not refused, from its packets in order of least slack.
 pub fn run(model: Model, pruning: u32, threshold: u32) -> Outcome
-    requires { ⌜ ((ps : List Packet) × Modelled ps model pruning threshold) ⌝ }
-    ensures { λ r. ⌜ ((ps : List Packet) → Modelled ps model pruning threshold → Searched ps (slackAt ps) pruning threshold r) ⌝ }
+    requires { ⌜ Modelled model pruning threshold ⌝ }
+    ensures { λ r. ⌜ (foundOf (model .packets .count) r ≡ searchOf (packetsRead model) pruning threshold) × (length (r .times) ≡ 1024) ⌝ }
 {
     let key = slacks(model);
-    let n = model.packets.count;
+    let count = model.packets.count;
     let flow = model.packets.flow;
-    let keys = keys_of(key, flow, n);
-    let paths = model.flows.path;
-    let links = links_of(paths);
-    let lens = lens_of(paths);
+    let list = by_flow(&key, model.flows.count, &flow, count);
+    let release = model.packets.release;
     let occupancy = model.flows.occupancy;
     let due = model.flows.due;
-    let release = model.packets.release;
-    rounds(
-        &keys,
-        n,
-        &flow,
-        &occupancy,
-        &lens,
-        &links,
-        &release,
-        &due,
-        pruning,
-        threshold,
-    )
+    let paths = model.flows.path;
+    let traffic = Traffic {
+        count,
+        flow,
+        release,
+        occupancy,
+        due,
+        longest: longest_of(occupancy),
+        lens: lens_of(paths),
+        links: links_of(paths),
+    };
+    rounds(list, traffic, pruning, threshold)
 }

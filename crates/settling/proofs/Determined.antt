@@ -5,7 +5,6 @@ use denote.Ref.{now}
 use denote.Triple.Clauses.{AtExit}
 use borrow.Fn.Kinds.{Dens, resT, endedOf}
 use Rattle.basics.proofs.Determined.{Determined}
-use Rattle.stretches.specs.Busy.{busyOf}
 use Rattle.settling.proofs.taking.settle.Reads as settle
 use Rattle.settling.proofs.taking.settle.Kinds as settle-kinds
 use Rattle.settling.proofs.taking.turn_away.Reads as turn-away
@@ -13,19 +12,15 @@ use Rattle.settling.proofs.taking.turn_away.Kinds as turn-away-kinds
 use Rattle.settling.proofs.taking.no_times.Reads as no-times
 use Rattle.settling.proofs.taking.no_times.Kinds as no-times-kinds
 
--- the table and the stretches once a packet took a time
-pub settle-determined : (κs : Lfts 9) (a : Dens κs settle-kinds.ps) (x y : resT settle-kinds.r κs .Denot)
-    (s t : AtExit (endedOf 9 settle-kinds.ps settle-kinds.r) κs) → settle.Post κs a x s → settle.Post κs a y t
-    → (now (s .0) ≡ now (t .0))
-    × (busyOf (now (s .1 .0)) (now (s .1 .1 .0)) (now (s .1 .1 .1 .0)) (now (s .1 .1 .1 .1 .0)) (x .count) (x .longest)
-    ≡ busyOf (now (t .1 .0)) (now (t .1 .1 .0)) (now (t .1 .1 .1 .0)) (now (t .1 .1 .1 .1 .0)) (y .count) (y .longest))
+-- the table and the placed packets once a packet took a time
+pub settle-determined : (κs : Lfts 2) (a : Dens κs settle-kinds.ps) (x y : resT settle-kinds.r κs .Denot)
+    (s t : AtExit (endedOf 2 settle-kinds.ps settle-kinds.r) κs) → settle.Post κs a x s → settle.Post κs a y t
+    → (now (s .0) ≡ now (t .0)) × (now (s .1 .0) ≡ now (t .1 .0))
 settle-determined κs a x y s t p q = (p .0 ∙ sym (q .0), p .1 ∙ sym (q .1))
 
--- where the pass stands, the order and the fail counts once a packet was turned away
-pub turn-away-determined : (κs : Lfts 2) (a : Dens κs turn-away-kinds.ps) (x y : resT turn-away-kinds.r κs .Denot)
-    (s t : AtExit (endedOf 2 turn-away-kinds.ps turn-away-kinds.r) κs) → turn-away.Post κs a x s → turn-away.Post κs a y t
-    → (x ≡ y) × (now (s .1 .0) ≡ now (t .1 .0)) × (now (s .1 .1 .0) ≡ now (t .1 .1 .0))
-turn-away-determined κs a x y s t p q = (p .0 ∙ sym (q .0), p .1 ∙ sym (q .1), p .2 ∙ sym (q .2))
+-- the state once a packet was turned away
+pub turn-away-determined : Determined 0 turn-away-kinds.ps turn-away-kinds.r turn-away.Post
+turn-away-determined κs a x y s t p q = p ∙ sym q
 
 -- the table that holds no time
 pub no-times-determined : Determined 0 no-times-kinds.ps no-times-kinds.r no-times.Post

@@ -37,15 +37,19 @@ holds-last s a h = holds-at s a (s + a - 1) (omega arith) (omega arith)
 
 -- ---- `overlaps`
 
+-- windows that each start before the other's end overlap
+pub overlaps-at : (s a t b : ℕ) → s < t + b → t < s + a → overlaps s a t b ≡ true
+unfolding overlaps
+overlaps-at s a t b h k = both-pass _ _ (lt-ltb s (t + b) h) (lt-ltb t (s + a) k)
+
 -- windows that both hold a cycle overlap
 pub common-overlaps : (s a t b c : ℕ) → holds s a c ≡ true → holds t b c ≡ true → overlaps s a t b ≡ true
-unfolding overlaps
 common-overlaps s a t b c p q =
     let sc = holds-from s a c p in
     let ca = holds-before s a c p in
     let tc = holds-from t b c q in
     let cb = holds-before t b c q in
-    both-pass _ _ (lt-ltb s (t + b) (omega arith)) (lt-ltb t (s + a) (omega arith))
+    overlaps-at s a t b (omega arith) (omega arith)
 
 -- overlapping windows of positive length both hold the later of their starts
 pub overlaps-common : (s a t b : ℕ) → 0 < a → 0 < b → overlaps s a t b ≡ true

@@ -1,146 +1,141 @@
--- `sweep` goes forward over the stretches. The invariants of its three loops are `AtTime`, `AtStretch` and `AtLink`.
+-- `sweep` goes forward over the placed packets. The invariants of its three loops are `AtTime`, `AtPacket` and `AtLink`.
 use Prim.Native.Nat.{_-_}
-use mathlib.Core.Path.{refl, sym, _∙_}
+use mathlib.Core.Path.{refl, sym, _∙_, subst}
 use native.Mathlib.Omega.{arith}
 use borrow.Author.Count.{below-none, below-more}
-use Rattle.stretches.specs.Busy.{busyOf, farthest, entry}
-use Rattle.gaps.proofs.Sweeping.{sweep-start, sweep-over, sweep-clear, sweep-early, sweep-none}
-use Rattle.gaps.proofs.Facing.{AtTime, AtStretch, AtLink, facing-steps, facing-jump, facing-apart}
+use Rattle.kept.specs.Load.{loadOf, flowAt, spanOf}
+use Rattle.kept.specs.Kept.{startOf}
+use Rattle.gaps.specs.Gaps.{flowOf}
+use Rattle.gaps.proofs.Sweeping.{Sweeping, past-after, sweep-start, sweep-over}
+use Rattle.gaps.proofs.Facing.{AtTime, AtPacket, AtLink, next-is, facing-jump, facing-apart, ends-past, ends-early, ends-clear}
 use Rattle.gaps.proofs.gap.sweep.Statement.{statement}
 use Rattle.gaps.proofs.gap.sweep.Tie as tie
 
 abbrev Inv-loop2 : tie.InvT-loop2
-Inv-loop2 by count from until who marks lens links own span pruning begin slots at j₀ i₀ t₀ k end other a₀ a-end j i t a = AtLink lens links marks (busyOf by from until who count farthest) own span pruning begin at slots j₀ j i t other end a a-end
+Inv-loop2 by count times flow occupancy marks lens links own pruning begin latest at span j₀ t₀ q start other end a₀ a-end j t a = AtLink (loadOf flow occupancy lens links) marks by count times own pruning begin latest at span j₀ j t other end a a-end
 
 abbrev μ-loop2 : tie.MeasureT-loop2
-μ-loop2 by count from until who marks lens links own span pruning begin slots at j₀ i₀ t₀ k end other a₀ a-end j i t a = a-end - a
+μ-loop2 by count times flow occupancy marks lens links own pruning begin latest at span j₀ t₀ q start other end a₀ a-end j t a = a-end - a
 
 abbrev Inv-loop : tie.InvT-loop
-Inv-loop by count from until who marks lens links own span pruning begin slots at j₀ i₀ t₀ j i t = AtStretch lens links marks (busyOf by from until who count farthest) own span pruning begin at slots j₀ j i t
+Inv-loop by count times flow occupancy marks lens links own pruning begin latest at span j₀ t₀ j t = AtPacket (loadOf flow occupancy lens links) marks by count times own pruning begin latest at span j₀ j t
 
 abbrev μ-loop : tie.MeasureT-loop
-μ-loop by count from until who marks lens links own span pruning begin slots at j₀ i₀ t₀ j i t = count - j
+μ-loop by count times flow occupancy marks lens links own pruning begin latest at span j₀ t₀ j t = count - j
 
 abbrev Inv-times : tie.InvT-times
-Inv-times by count from until who marks lens links own span pruning begin slots at j₀ i₀ t₀ j i t = AtTime lens links marks (busyOf by from until who count farthest) own span pruning begin at j i t
+Inv-times by count times flow occupancy marks lens links own pruning begin latest at span j₀ t₀ j t = AtTime (loadOf flow occupancy lens links) marks by count times own pruning begin latest at span j t
 
 abbrev μ-times : tie.MeasureT-times
-μ-times by count from until who marks lens links own span pruning begin slots at j₀ i₀ t₀ j i t = count - j
+μ-times by count times flow occupancy marks lens links own pruning begin latest at span j₀ t₀ j t = count - j
+
+mul-span : tie.Need-mul-span Inv-loop2 μ-loop2 Inv-loop μ-loop Inv-times μ-times
+mul-span c = omega (arith, c .pre .flow)
+
+element-copy-out-span : tie.Need-element-copy-out-span Inv-loop2 μ-loop2 Inv-loop μ-loop Inv-times μ-times
+element-copy-out-span c = c .pre .flow
 
 times-holds : tie.Need-times-holds Inv-loop2 μ-loop2 Inv-loop μ-loop Inv-times μ-times
-times-holds c = record { asks = c .pre; swept = sweep-start (c .pre) }
+unfolding spanOf
+times-holds c = record { asks = c .before .pre; span-is = refl; small-span = c .before .pre .loaded .spans _ (c .before .pre .flow); swept = sweep-start (c .before .pre); after = omega arith }
+
+times-to-requires : tie.Need-times-to-requires Inv-loop2 μ-loop2 Inv-loop μ-loop Inv-times μ-times
+times-to-requires c κs = let s = c .before .times .inv .asks in (s .order, s .some-step, omega (arith, s .soon))
 
 loop-holds : tie.Need-loop-holds Inv-loop2 μ-loop2 Inv-loop μ-loop Inv-times μ-times
-loop-holds c = record { asks = c .before .times .inv .asks; swept = c .before .times .inv .swept; going = c .if1 .left; ahead = omega arith }
+loop-holds c = let s = c .before .times .inv in record { asks = s .asks; span-is = s .span-is; small-span = s .small-span; swept = s .swept; after = s .after; going = c .if1 .left; ahead = omega arith }
 
-mul-k : tie.Need-mul-k Inv-loop2 μ-loop2 Inv-loop μ-loop Inv-times μ-times
-mul-k c = omega (arith, c .before .loop .inv .asks .kept .order .few)
+mul-q : tie.Need-mul-q Inv-loop2 μ-loop2 Inv-loop μ-loop Inv-times μ-times
+mul-q c = omega (arith, c .before .loop .inv .asks .kept .few, c .loop-test .taken)
 
-element-copy-out-k : tie.Need-element-copy-out-k Inv-loop2 μ-loop2 Inv-loop μ-loop Inv-times μ-times
-element-copy-out-k c = omega (arith, c .before .loop .inv .asks .kept .order .few)
+element-copy-out-q : tie.Need-element-copy-out-q Inv-loop2 μ-loop2 Inv-loop μ-loop Inv-times μ-times
+element-copy-out-q c = omega (arith, c .before .loop .inv .asks .kept .few, c .loop-test .taken)
 
-cast-k : tie.Need-cast-k Inv-loop2 μ-loop2 Inv-loop μ-loop Inv-times μ-times
-cast-k c = let l = c .before .before .loop .inv .asks .kept .order in omega (arith, l .few, l .listed (c .before .before .loop .j) (c .before .loop-test .taken))
+cast-q : tie.Need-cast-q Inv-loop2 μ-loop2 Inv-loop μ-loop Inv-times μ-times
+cast-q c = omega (arith, next-is (c .before .before .loop .inv .asks) (c .before .before .loop .j) (c .before .loop-test .taken))
+
+mul-start : tie.Need-mul-start Inv-loop2 μ-loop2 Inv-loop μ-loop Inv-times μ-times
+mul-start c = omega (arith, next-is (c .before .before .loop .inv .asks) (c .before .before .loop .j) (c .before .loop-test .taken))
+
+element-copy-out-start : tie.Need-element-copy-out-start Inv-loop2 μ-loop2 Inv-loop μ-loop Inv-times μ-times
+element-copy-out-start c = next-is (c .before .before .loop .inv .asks) (c .before .before .loop .j) (c .before .loop-test .taken) .number
 
 add-if2 : tie.Need-add-if2 Inv-loop2 μ-loop2 Inv-loop μ-loop Inv-times μ-times
-add-if2 c = let l = c .before .before .loop .inv in omega (arith, l .swept .small, l .asks .small-span)
+add-if2 c = let s = c .before .before .before .loop .inv in omega (arith, s .going, s .asks .soon, s .small-span)
 
-mul-if2 : tie.Need-mul-if2 Inv-loop2 μ-loop2 Inv-loop μ-loop Inv-times μ-times
-mul-if2 c = let l = c .before .before .loop .inv .asks .kept .order in omega (arith, l .few, l .listed (c .before .before .loop .j) (c .before .loop-test .taken))
-
-element-copy-out-if2 : tie.Need-element-copy-out-if2 Inv-loop2 μ-loop2 Inv-loop μ-loop Inv-times μ-times
-element-copy-out-if2 c = let l = c .before .before .loop .inv .asks .kept .order in omega (arith, l .few, l .listed (c .before .before .loop .j) (c .before .loop-test .taken))
-
-add-t34 : tie.Need-add-t34 Inv-loop2 μ-loop2 Inv-loop μ-loop Inv-times μ-times
-add-t34 c = let s = c .before .before .before .before .loop .inv .swept in omega (arith, s .small, s .fits)
-
-mul-end : tie.Need-mul-end Inv-loop2 μ-loop2 Inv-loop μ-loop Inv-times μ-times
-mul-end c = let l = c .before .before .before .before .loop .inv .asks .kept .order in omega (arith, l .few, l .listed (c .before .before .before .before .loop .j) (c .before .before .before .loop-test .taken))
-
-element-copy-out-end : tie.Need-element-copy-out-end Inv-loop2 μ-loop2 Inv-loop μ-loop Inv-times μ-times
-element-copy-out-end c = let l = c .before .before .before .before .loop .inv .asks .kept .order in omega (arith, l .few, l .listed (c .before .before .before .before .loop .j) (c .before .before .before .loop-test .taken))
-
-add-j : tie.Need-add-j Inv-loop2 μ-loop2 Inv-loop μ-loop Inv-times μ-times
-add-j c = omega (arith, c .before .before .before .before .before .before .loop .inv .asks .kept .order .few, c .before .before .before .before .before .loop-test .taken)
-
-loop-less : tie.Need-loop-less Inv-loop2 μ-loop2 Inv-loop μ-loop Inv-times μ-times
-loop-less c = omega (arith, c .before .before .before .before .before .loop-test .taken)
-
-loop-again : tie.Need-loop-again Inv-loop2 μ-loop2 Inv-loop μ-loop Inv-times μ-times
-unfolding entry
-loop-again c = let l = c .before .before .before .before .before .before .loop .inv in record { asks = l .asks; swept = sweep-over (l .swept) (c .before .before .before .before .before .loop-test .taken) (c .if3 .taken); going = l .going; ahead = omega (arith, l .ahead) }
+times-to-requires-2 : tie.Need-times-to-requires-2 Inv-loop2 μ-loop2 Inv-loop μ-loop Inv-times μ-times
+times-to-requires-2 c κs = let s = c .before .before .before .before .loop .inv in (s .after, s .asks .some-step, s .swept .small)
 
 mul-other : tie.Need-mul-other Inv-loop2 μ-loop2 Inv-loop μ-loop Inv-times μ-times
-mul-other c = let l = c .before .before .before .before .before .before .loop .inv .asks .kept .order in omega (arith, l .few, l .listed (c .before .before .before .before .before .before .loop .j) (c .before .before .before .before .before .loop-test .taken))
+mul-other c = omega (arith, next-is (c .before .before .before .before .loop .inv .asks) (c .before .before .before .before .loop .j) (c .before .before .before .loop-test .taken))
 
 element-copy-out-other : tie.Need-element-copy-out-other Inv-loop2 μ-loop2 Inv-loop μ-loop Inv-times μ-times
-element-copy-out-other c = let l = c .before .before .before .before .before .before .loop .inv .asks .kept .order in omega (arith, l .few, l .listed (c .before .before .before .before .before .before .loop .j) (c .before .before .before .before .before .loop-test .taken))
+element-copy-out-other c = next-is (c .before .before .before .before .loop .inv .asks) (c .before .before .before .before .loop .j) (c .before .before .before .loop-test .taken) .number
 
 cast-other : tie.Need-cast-other Inv-loop2 μ-loop2 Inv-loop μ-loop Inv-times μ-times
-unfolding entry
-cast-other c = omega (arith, c .before .before .before .before .before .before .before .loop .inv .asks .kept .flows (c .before .before .before .before .before .before .before .loop .j) (c .before .before .before .before .before .before .loop-test .taken))
+cast-other c = omega (arith, next-is (c .before .before .before .before .before .loop .inv .asks) (c .before .before .before .before .before .loop .j) (c .before .before .before .before .loop-test .taken))
+
+mul-end : tie.Need-mul-end Inv-loop2 μ-loop2 Inv-loop μ-loop Inv-times μ-times
+mul-end c = omega (arith, next-is (c .before .before .before .before .before .loop .inv .asks) (c .before .before .before .before .before .loop .j) (c .before .before .before .before .loop-test .taken))
+
+element-copy-out-end : tie.Need-element-copy-out-end Inv-loop2 μ-loop2 Inv-loop μ-loop Inv-times μ-times
+element-copy-out-end c = next-is (c .before .before .before .before .before .loop .inv .asks) (c .before .before .before .before .before .loop .j) (c .before .before .before .before .loop-test .taken) .flow
+
+add-end : tie.Need-add-end Inv-loop2 μ-loop2 Inv-loop μ-loop Inv-times μ-times
+add-end c = omega (arith, next-is (c .before .before .before .before .before .before .loop .inv .asks) (c .before .before .before .before .before .before .loop .j) (c .before .before .before .before .before .loop-test .taken))
+
+add-j : tie.Need-add-j Inv-loop2 μ-loop2 Inv-loop μ-loop Inv-times μ-times
+add-j c = omega (arith, c .before .before .before .before .before .before .before .loop .inv .asks .kept .few, c .before .before .before .before .before .before .loop-test .taken)
+
+loop-less : tie.Need-loop-less Inv-loop2 μ-loop2 Inv-loop μ-loop Inv-times μ-times
+loop-less c = omega (arith, c .before .before .before .before .before .before .loop-test .taken)
+
+loop-again : tie.Need-loop-again Inv-loop2 μ-loop2 Inv-loop μ-loop Inv-times μ-times
+unfolding startOf flowOf spanOf flowAt
+loop-again c = let s = c .before .before .before .before .before .before .before .loop .inv in record { asks = s .asks; span-is = s .span-is; small-span = s .small-span; swept = sweep-over (s .swept) (c .before .before .before .before .before .before .loop-test .taken) (c .if3 .taken); after = s .after; going = s .going; ahead = omega (arith, s .ahead) }
 
 mul-a-end : tie.Need-mul-a-end Inv-loop2 μ-loop2 Inv-loop μ-loop Inv-times μ-times
-unfolding entry
-mul-a-end c = omega (arith, c .before .before .before .before .before .before .before .loop .inv .asks .kept .flows (c .before .before .before .before .before .before .before .loop .j) (c .before .before .before .before .before .before .loop-test .taken))
+mul-a-end c = omega (arith, next-is (c .before .before .before .before .before .before .before .loop .inv .asks) (c .before .before .before .before .before .before .before .loop .j) (c .before .before .before .before .before .before .loop-test .taken))
 
 element-copy-out-a-end : tie.Need-element-copy-out-a-end Inv-loop2 μ-loop2 Inv-loop μ-loop Inv-times μ-times
-unfolding entry
-element-copy-out-a-end c = c .before .before .before .before .before .before .before .loop .inv .asks .kept .flows (c .before .before .before .before .before .before .before .loop .j) (c .before .before .before .before .before .before .loop-test .taken)
+element-copy-out-a-end c = next-is (c .before .before .before .before .before .before .before .loop .inv .asks) (c .before .before .before .before .before .before .before .loop .j) (c .before .before .before .before .before .before .loop-test .taken) .flow
 
 loop2-holds : tie.Need-loop2-holds Inv-loop2 μ-loop2 Inv-loop μ-loop Inv-times μ-times
-unfolding entry
+unfolding startOf flowOf spanOf flowAt
 loop2-holds c =
-    let l = c .before .before .before .before .before .before .before .before .loop .inv in
-    let next = c .before .before .before .before .before .before .before .loop-test .taken in
-    let flow = l .asks .kept .flows (c .before .before .before .before .before .before .before .before .loop .j) next in
-    let soon = l .asks .kept .soon (c .before .before .before .before .before .before .before .before .loop .j) next in
-    record { asks = l .asks; swept = l .swept; facing = record { next = next; other-is = refl; end-is = refl; before = c .before .before .if3 .left; starts = c .before .before .before .before .if2 .left; flow = flow; soon = soon }; going = l .going; ahead = omega arith; within = omega arith; lacks = below-none _; long = refl; few = l .asks .paths .short _ flow }
+    let s = c .before .before .before .before .before .before .before .before .loop .inv in
+    let n = next-is (c .before .before .before .before .before .before .before .before .loop .inv .asks) (c .before .before .before .before .before .before .before .before .loop .j) (c .before .before .before .before .before .before .before .loop-test .taken) in
+    record { packet = record { asks = s .asks; span-is = s .span-is; small-span = s .small-span; swept = s .swept; after = s .after; going = s .going; ahead = omega arith }; facing = record { next = c .before .before .before .before .before .before .before .loop-test .taken; other-is = refl; end-is = refl; starts = omega (arith, c .before .before .before .before .if2 .left, s .span-is); flow = n .flow; past = record { before = c .before .if3 .left; soon = omega (arith, n); some-step = s .asks .some-step; small-step = s .asks .small-step } }; within = omega arith; lacks = below-none _; long = refl; few = s .asks .loaded .paths .short _ (n .flow) }
 
-mul-marked-on : tie.Need-mul-marked-on Inv-loop2 μ-loop2 Inv-loop μ-loop Inv-times μ-times
-mul-marked-on c = omega (arith, c .before .loop2 .inv .facing .flow)
+mul-has-mark : tie.Need-mul-has-mark Inv-loop2 μ-loop2 Inv-loop μ-loop Inv-times μ-times
+mul-has-mark c = omega (arith, c .before .loop2 .inv .facing .flow)
 
-add-marked-on : tie.Need-add-marked-on Inv-loop2 μ-loop2 Inv-loop μ-loop Inv-times μ-times
-add-marked-on c = let s = c .before .loop2 .inv in omega (arith, s .facing .flow, s .few, c .loop2-test .taken)
+add-has-mark : tie.Need-add-has-mark Inv-loop2 μ-loop2 Inv-loop μ-loop Inv-times μ-times
+add-has-mark c = let s = c .before .loop2 .inv in omega (arith, s .facing .flow, s .few, c .loop2-test .taken)
 
-mul-marked-on-2 : tie.Need-mul-marked-on-2 Inv-loop2 μ-loop2 Inv-loop μ-loop Inv-times μ-times
-mul-marked-on-2 c = let s = c .before .loop2 .inv in omega (arith, s .facing .flow, s .few, c .loop2-test .taken)
+mul-has-mark-2 : tie.Need-mul-has-mark-2 Inv-loop2 μ-loop2 Inv-loop μ-loop Inv-times μ-times
+mul-has-mark-2 c = let s = c .before .loop2 .inv in omega (arith, s .facing .flow, s .few, c .loop2-test .taken)
 
-element-copy-out-marked-on : tie.Need-element-copy-out-marked-on Inv-loop2 μ-loop2 Inv-loop μ-loop Inv-times μ-times
-element-copy-out-marked-on c = let s = c .before .loop2 .inv in omega (arith, s .facing .flow, s .few, c .loop2-test .taken)
+element-copy-out-has-mark : tie.Need-element-copy-out-has-mark Inv-loop2 μ-loop2 Inv-loop μ-loop Inv-times μ-times
+element-copy-out-has-mark c = let s = c .before .loop2 .inv in omega (arith, s .facing .flow, s .few, c .loop2-test .taken)
 
-marked-on-requires : tie.Need-marked-on-requires Inv-loop2 μ-loop2 Inv-loop μ-loop Inv-times μ-times
-marked-on-requires c κs = let asks = c .before .before .loop2 .inv .asks in (asks .marked, asks .paths, asks .flow)
+has-mark-requires : tie.Need-has-mark-requires Inv-loop2 μ-loop2 Inv-loop μ-loop Inv-times μ-times
+has-mark-requires c κs = let s = c .before .before .loop2 .inv .packet .asks in (s .flow, s .loaded .paths .numbers _)
 
-sub-steps : tie.Need-sub-steps Inv-loop2 μ-loop2 Inv-loop μ-loop Inv-times μ-times
-sub-steps c = omega (arith, c .before .before .before .before .loop2 .inv .facing .before)
-
-add-steps : tie.Need-add-steps Inv-loop2 μ-loop2 Inv-loop μ-loop Inv-times μ-times
-add-steps c = let s = c .before .before .before .before .loop2 .inv in omega (arith, s .facing .soon, s .asks .small-step)
-
-sub-steps-2 : tie.Need-sub-steps-2 Inv-loop2 μ-loop2 Inv-loop μ-loop Inv-times μ-times
-sub-steps-2 c = omega (arith, c .before .before .before .before .loop2 .inv .asks .some-step)
-
-div-steps : tie.Need-div-steps Inv-loop2 μ-loop2 Inv-loop μ-loop Inv-times μ-times
-div-steps c = c .before .before .before .before .loop2 .inv .asks .some-step
-
-add-i : tie.Need-add-i Inv-loop2 μ-loop2 Inv-loop μ-loop Inv-times μ-times
-add-i c = let s = c .before .before .before .before .loop2 .inv in omega (arith, s .facing .soon, facing-steps (s .asks .some-step) (s .facing), s .asks .small-step, s .swept)
-
-mul-t : tie.Need-mul-t Inv-loop2 μ-loop2 Inv-loop μ-loop Inv-times μ-times
-mul-t c = let s = c .before .before .before .before .loop2 .inv in omega (arith, s .facing .soon, facing-steps (s .asks .some-step) (s .facing), s .asks .small-step)
-
-add-t : tie.Need-add-t Inv-loop2 μ-loop2 Inv-loop μ-loop Inv-times μ-times
-add-t c = let s = c .before .before .before .before .loop2 .inv in omega (arith, s .facing .soon, facing-steps (s .asks .some-step) (s .facing), s .asks .small-step, s .swept)
+time-past-requires : tie.Need-time-past-requires Inv-loop2 μ-loop2 Inv-loop μ-loop Inv-times μ-times
+time-past-requires c κs = c .before .before .before .before .loop2 .inv .facing .past
 
 add-j-2 : tie.Need-add-j-2 Inv-loop2 μ-loop2 Inv-loop μ-loop Inv-times μ-times
-add-j-2 c = let s = c .before .before .before .before .loop2 .inv in omega (arith, s .asks .kept .order .few, s .facing .next)
+add-j-2 c = let s = c .before .before .before .before .before .loop2 .inv in omega (arith, s .packet .asks .kept .few, s .facing .next)
 
 times-less : tie.Need-times-less Inv-loop2 μ-loop2 Inv-loop μ-loop Inv-times μ-times
-times-less c = let s = c .before .before .before .before .loop2 .inv in omega (arith, c .before .before .before .before .before .before .before .before .before .before .before .before .before .loop .inv .ahead, s .ahead, s .facing .next)
+times-less c = let s = c .before .before .before .before .before .loop2 .inv in omega (arith, c .before .before .before .before .before .before .before .before .before .before .before .before .before .before .loop .inv .ahead, s .packet .ahead, s .facing .next)
 
 times-again : tie.Need-times-again Inv-loop2 μ-loop2 Inv-loop μ-loop Inv-times μ-times
-times-again c = let s = c .before .before .before .before .loop2 .inv in record { asks = s .asks; swept = facing-jump (s .asks) (s .swept) (s .facing) (c .before .before .before .before .loop2 .a) (omega (arith, c .before .before .before .loop2-test .taken, s .long)) (sym (c .before .marked-on .ensures) ∙ c .if4 .taken) }
+times-again c =
+    let s = c .before .before .before .before .before .loop2 .inv in
+    let on = subst (Sweeping _ _ _ _ _ _ _ _) (sym (c .time-past .ensures)) (facing-jump (s .packet .asks) (s .packet .swept) (s .facing) (c .before .before .before .before .before .loop2 .a) (omega (arith, c .before .before .before .before .loop2-test .taken, s .long)) (sym (s .packet .asks .marked .exact _) ∙ sym (c .before .before .has-mark .ensures) ∙ c .before .if4 .taken)) in
+    record { asks = s .packet .asks; span-is = s .packet .span-is; small-span = s .packet .small-span; swept = on; after = omega (arith, s .packet .after, c .time-past .ensures, past-after (s .facing .past)) }
 
 add-a : tie.Need-add-a Inv-loop2 μ-loop2 Inv-loop μ-loop Inv-times μ-times
 add-a c = omega (arith, c .before .before .before .before .loop2 .inv .few, c .before .before .before .loop2-test .taken)
@@ -149,29 +144,29 @@ loop2-less : tie.Need-loop2-less Inv-loop2 μ-loop2 Inv-loop μ-loop Inv-times �
 loop2-less c = omega (arith, c .before .before .before .loop2-test .taken)
 
 loop2-again : tie.Need-loop2-again Inv-loop2 μ-loop2 Inv-loop μ-loop Inv-times μ-times
-loop2-again c = let s = c .before .before .before .before .loop2 .inv in record { asks = s .asks; swept = s .swept; facing = s .facing; going = s .going; ahead = s .ahead; within = omega (arith, c .before .before .before .loop2-test .taken); lacks = below-more _ _ (s .lacks) (sym (c .before .marked-on .ensures) ∙ c .if4 .left); long = s .long; few = s .few }
+loop2-again c = let s = c .before .before .before .before .loop2 .inv in record { packet = s .packet; facing = s .facing; within = omega (arith, c .before .before .before .loop2-test .taken); lacks = below-more _ _ (s .lacks) (sym (s .packet .asks .marked .exact _) ∙ sym (c .before .has-mark .ensures) ∙ c .if4 .left); long = s .long; few = s .few }
 
 add-j-3 : tie.Need-add-j-3 Inv-loop2 μ-loop2 Inv-loop μ-loop Inv-times μ-times
-add-j-3 c = let s = c .before .loop2 .inv in omega (arith, s .asks .kept .order .few, s .facing .next)
+add-j-3 c = let s = c .before .loop2 .inv in omega (arith, s .packet .asks .kept .few, s .facing .next)
 
 loop-less-2 : tie.Need-loop-less-2 Inv-loop2 μ-loop2 Inv-loop μ-loop Inv-times μ-times
-loop-less-2 c = let s = c .before .loop2 .inv in omega (arith, s .ahead, s .facing .next)
+loop-less-2 c = let s = c .before .loop2 .inv in omega (arith, s .packet .ahead, s .facing .next)
 
 loop-again-2 : tie.Need-loop-again-2 Inv-loop2 μ-loop2 Inv-loop μ-loop Inv-times μ-times
-loop-again-2 c = let s = c .before .loop2 .inv in record { asks = s .asks; swept = facing-apart (s .asks) (s .swept) (s .facing) (λ m h. s .lacks m (omega (arith, c .loop2-test .left, s .long))); going = s .going; ahead = omega (arith, c .before .before .before .before .before .before .before .before .before .before .loop .inv .ahead, s .ahead) }
+loop-again-2 c = let s = c .before .loop2 .inv in record { asks = s .packet .asks; span-is = s .packet .span-is; small-span = s .packet .small-span; swept = facing-apart (s .packet .asks) (s .packet .swept) (s .facing) (λ m h. s .lacks m (omega (arith, c .loop2-test .left, s .long))); after = s .packet .after; going = s .packet .going; ahead = omega (arith, c .before .before .before .before .before .before .before .before .before .before .loop .inv .ahead, s .packet .ahead) }
 
-add-t54 : tie.Need-add-t54 Inv-loop2 μ-loop2 Inv-loop μ-loop Inv-times μ-times
-add-t54 c = let s = c .before .loop .inv .swept in omega (arith, s .small, s .fits)
+times-to-requires-3 : tie.Need-times-to-requires-3 Inv-loop2 μ-loop2 Inv-loop μ-loop Inv-times μ-times
+times-to-requires-3 c κs = let s = c .before .loop .inv in (s .after, s .asks .some-step, s .swept .small)
 
 returns : tie.Need-returns Inv-loop2 μ-loop2 Inv-loop μ-loop Inv-times μ-times
-returns c = sweep-none (c .before .times .inv .swept) _ (c .if1 .taken)
+returns c = ends-past (c .before .before .times .inv) (c .before .if1 .taken) (c .times-to .ensures)
 
 returns-2 : tie.Need-returns-2 Inv-loop2 μ-loop2 Inv-loop μ-loop Inv-times μ-times
-unfolding entry
-returns-2 c = let l = c .before .before .before .before .loop .inv in sweep-early (l .swept) _ (l .going) (l .asks .kept) (c .if2 .taken)
+unfolding startOf
+returns-2 c = ends-early (c .before .before .before .before .before .loop .inv) (c .times-to2 .ensures) (c .before .before .before .before .loop-test .taken) (c .before .if2 .taken)
 
 returns-3 : tie.Need-returns-3 Inv-loop2 μ-loop2 Inv-loop μ-loop Inv-times μ-times
-returns-3 c = let l = c .before .loop .inv in sweep-clear (l .swept) _ (l .going) (c .loop-test .left)
+returns-3 c = ends-clear (c .before .before .loop .inv) (c .times-to3 .ensures) (c .before .loop-test .left)
 
 pub sweep-spec : {M : Type 1} → statement M
 sweep-spec =
@@ -183,38 +178,36 @@ sweep-spec =
     μ-loop
     Inv-times
     μ-times
+    mul-span
+    element-copy-out-span
     times-holds
+    times-to-requires
     loop-holds
-    mul-k
-    element-copy-out-k
-    cast-k
+    mul-q
+    element-copy-out-q
+    cast-q
+    mul-start
+    element-copy-out-start
     add-if2
-    mul-if2
-    element-copy-out-if2
-    add-t34
-    mul-end
-    element-copy-out-end
-    add-j
-    loop-less
-    loop-again
+    times-to-requires-2
     mul-other
     element-copy-out-other
     cast-other
+    mul-end
+    element-copy-out-end
+    add-end
+    add-j
+    loop-less
+    loop-again
     mul-a-end
     element-copy-out-a-end
     loop2-holds
-    mul-marked-on
-    add-marked-on
-    mul-marked-on-2
-    element-copy-out-marked-on
-    marked-on-requires
-    sub-steps
-    add-steps
-    sub-steps-2
-    div-steps
-    add-i
-    mul-t
-    add-t
+    mul-has-mark
+    add-has-mark
+    mul-has-mark-2
+    element-copy-out-has-mark
+    has-mark-requires
+    time-past-requires
     add-j-2
     times-less
     times-again
@@ -224,7 +217,7 @@ sweep-spec =
     add-j-3
     loop-less-2
     loop-again-2
-    add-t54
+    times-to-requires-3
     returns
     returns-2
     returns-3)

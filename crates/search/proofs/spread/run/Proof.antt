@@ -1,39 +1,41 @@
--- `run` makes the keys, spreads the paths, and takes the passes over arrays that hold the packets (proofs/Modelling.antt).
-use Rattle.order.proofs.Spreading.{within-64}
-use Rattle.search.proofs.Slack.{keys-long, searched-slack}
-use Rattle.search.proofs.Modelling.{modelled-ready}
+-- `run` puts the packets in order of least slack, spreads the paths, and takes the passes (proofs/Slack.antt, proofs/Modelling.antt).
+use mathlib.Core.Path.{_∙_}
+use Rattle.passes.proofs.Start.{listing-sorted}
+use Rattle.search.proofs.Slack.{slacks-long, slack-order}
+use Rattle.search.proofs.Modelling.{modelled-ready, modelled-search}
 use borrow.Author.Needs.{needs}
 use Rattle.search.proofs.spread.run.Statement.{statement}
 use Rattle.search.proofs.spread.run.Tie as tie
 
 slacks-requires : tie.Need-slacks-requires
-slacks-requires c κs = c .pre .1 .keyed
+slacks-requires c κs = c .pre .keyed
 
-keys-of-requires : tie.Need-keys-of-requires
-keys-of-requires c κs = within-64 (c .before .before .pre .1 .grouped)
+by-flow-requires : tie.Need-by-flow-requires
+by-flow-requires c κs = (rw (c .before .before .before .slacks .ensures) (slacks-long (c .before .before .before .before .pre)), c .before .before .before .before .pre .grouped)
 
-links-of-requires : tie.Need-links-of-requires
-links-of-requires c κs = c .before .before .before .before .pre .1 .whole
+longest-of-requires : tie.Need-longest-of-requires
+longest-of-requires c κs = search needs
 
 lens-of-requires : tie.Need-lens-of-requires
 lens-of-requires c κs = search needs
 
+links-of-requires : tie.Need-links-of-requires
+links-of-requires c κs = c .before .before .before .before .before .before .before .before .before .before .before .pre .whole
+
 rounds-requires : tie.Need-rounds-requires
-rounds-requires c κs =
-    let s = c .before .before .before .before .before .before .before .before .before .before .before .before .before .before .before .before .pre in
-    let links = c .before .before .before .before .before .before .before .before .before .before .before .links-of .ensures in
-    let lens = c .before .before .before .before .before .before .before .before .before .before .lens-of .ensures in
-    record { ps = s .0; ready = modelled-ready (s .1) links lens; count = s .1 .count; keys = rw (c .before .before .before .before .before .before .before .before .before .before .before .before .before .keys-of .ensures, c .before .before .before .before .before .before .before .before .before .before .before .before .before .before .before .slacks .ensures) (keys-long (s .1)) }
+rounds-requires c κs = record { ready = modelled-ready (c .before .before .before .before .before .before .before .before .before .before .before .before .pre) (c .before .before .longest-of .ensures) (c .before .lens-of .ensures) (c .links-of .ensures); listing = listing-sorted _ _ _ (search needs) (c .before .before .before .before .before .before .before .by-flow .ensures) }
 
 returns : tie.Need-returns
-returns c = λ ps m.
-    let key = c .before .before .before .before .before .before .before .before .before .before .before .before .before .before .before .before .slacks .ensures in
-    let keys = c .before .before .before .before .before .before .before .before .before .before .before .before .before .before .keys-of .ensures in
-    let links = c .before .before .before .before .before .before .before .before .before .before .before .before .links-of .ensures in
-    let lens = c .before .before .before .before .before .before .before .before .before .before .before .lens-of .ensures in
-    searched-slack m (rw (← key, ← keys) (c .rounds .ensures ps (modelled-ready m links lens) (m .count)))
+returns c = (modelled-search (c .before .before .before .before .before .before .before .before .before .before .before .before .before .pre) (c .before .before .before .longest-of .ensures) (c .before .before .lens-of .ensures) (c .before .links-of .ensures) (c .rounds .ensures) _ (c .before .before .before .before .before .before .before .before .by-flow .ensures ∙ slack-order (c .before .before .before .before .before .before .before .before .before .before .before .before .before .pre) _ (c .before .before .before .before .before .before .before .before .before .before .before .before .slacks .ensures)), c .rounds .ensures .times-long)
 
 pub run-spec : {M : Type 1} → statement M
 run-spec =
     tie.close
-    (tie.spec slacks-requires keys-of-requires links-of-requires lens-of-requires rounds-requires returns)
+    (tie.spec
+    slacks-requires
+    by-flow-requires
+    longest-of-requires
+    lens-of-requires
+    links-of-requires
+    rounds-requires
+    returns)
