@@ -68,7 +68,7 @@ module _ (mesh : Mesh) (numbers : List ℕ) (fair : Fair mesh numbers) where
       read-at (modelOf mesh numbers) p (omega arith) ∙ packet-in p (omega (arith, model-count)))
 
   -- the path of packet p in the arrays lists its links
-  path-in : (p : ℕ) → p < packetsIn numbers
+  pub path-in : (p : ℕ) → p < packetsIn numbers
       → getD (modelOf mesh numbers .flows .path) (getD (modelOf mesh numbers .packets .flow) p 0) noPath .len ≡ length (packetAt (packetsOf mesh numbers) p .path)
   unfolding modelOf pathOf
   path-in p h =

@@ -34,6 +34,12 @@ module _ {ℓ} {X : Type ℓ} (f : ℕ → X) where
 
 -- ---- `padded`
 
+-- an entry of a list reads the same whatever stands for what lies past its end
+pub read-any {ℓ} : {X : Type ℓ} (xs : List X) (k : ℕ) (d e : X) → k < length xs → getD xs k d ≡ getD xs k e
+read-any [] k d e h = absurd (omega arith)
+read-any (x ∷ xs) zero d e h = refl
+read-any (x ∷ xs) (suc k) d e h = read-any xs k d e (omega arith)
+
 -- a list of one value reads as that value everywhere
 pub fill-at {ℓ} : {X : Type ℓ} (fill : X) (m k : ℕ) → getD (replicate m fill) k fill ≡ fill
 fill-at fill zero k = refl

@@ -28,8 +28,8 @@ pub record Next (load : Load) (by times : List ℕ) (k : ℕ) : Type 0 where
   pub span : getD (load .occupancy) (getD (load .flow) (getD by k 0) 0) 0 ≤ most
 
 -- so are all
-pub next-is : {load : Load} {marks by : List ℕ} {count : ℕ} {times : List ℕ} {g f begin latest at : ℕ}
-    → Sweep load marks by count times g f begin latest at → (k : ℕ) → k < count → Next load by times k
+pub next-is : {load : Load} {marks by : List ℕ} {count : ℕ} {times : List ℕ} {g f begin latest from at : ℕ}
+    → Sweep load marks by count times g f begin latest from at → (k : ℕ) → k < count → Next load by times k
 unfolding startOf flowAt spanOf
 next-is {by = by} asks k h = record {
   number = asks .kept .listed k h;
@@ -47,8 +47,8 @@ pub record Facing (load : Load) (by : List ℕ) (count : ℕ) (times : List ℕ)
   pub flow : other < 64
   pub past : EndAhead t end f
 
-module _ {load : Load} {marks by : List ℕ} {count : ℕ} {times : List ℕ} {g f begin latest at : ℕ}
-    (asks : Sweep load marks by count times g f begin latest at) {k t other end : ℕ}
+module _ {load : Load} {marks by : List ℕ} {count : ℕ} {times : List ℕ} {g f begin latest from at : ℕ}
+    (asks : Sweep load marks by count times g f begin latest from at) {k t other end : ℕ}
     (s : Sweeping load by count times g f begin k t) (face : Facing load by count times g f k t other end) where
   -- a link of the placed packet is on the packet's path: it is jumped past
   pub facing-jump : (a : ℕ) → a < getD (load .lens) other 0 → has (pathFor load g) (getD (load .links) (other * 32 + a) 0) ≡ true
@@ -70,16 +70,16 @@ module _ {load : Load} {marks by : List ℕ} {count : ℕ} {times : List ℕ} {g
 -- ---- where the code stands in its three loops
 
 -- at a time: what the sweep asks, and how far it is
-pub record AtTime (load : Load) (marks by : List ℕ) (count : ℕ) (times : List ℕ) (g f begin latest at span j t : ℕ) : Type 0 where
-  pub asks : Sweep load marks by count times g f begin latest at
+pub record AtTime (load : Load) (marks by : List ℕ) (count : ℕ) (times : List ℕ) (g f begin latest from at span j t : ℕ) : Type 0 where
+  pub asks : Sweep load marks by count times g f begin latest from at
   pub span-is : span ≡ getD (load .occupancy) g 0
   pub small-span : span ≤ most
   pub swept : Sweeping load by count times g f begin j t
   pub after : begin ≤ t
 
 -- at a placed packet: besides, the time is not past the latest, and the sweep does not go back
-pub record AtPacket (load : Load) (marks by : List ℕ) (count : ℕ) (times : List ℕ) (g f begin latest at span j₀ j t : ℕ) : Type 0 where
-  pub asks : Sweep load marks by count times g f begin latest at
+pub record AtPacket (load : Load) (marks by : List ℕ) (count : ℕ) (times : List ℕ) (g f begin latest from at span j₀ j t : ℕ) : Type 0 where
+  pub asks : Sweep load marks by count times g f begin latest from at
   pub span-is : span ≡ getD (load .occupancy) g 0
   pub small-span : span ≤ most
   pub swept : Sweeping load by count times g f begin j t
@@ -88,8 +88,8 @@ pub record AtPacket (load : Load) (marks by : List ℕ) (count : ℕ) (times : L
   pub ahead : j₀ ≤ j
 
 -- at a link of a placed packet that is faced: besides, no link before it is on the packet's path
-pub record AtLink (load : Load) (marks by : List ℕ) (count : ℕ) (times : List ℕ) (g f begin latest at span j₀ j t other end a a-end : ℕ) : Type 0 where
-  pub packet : AtPacket load marks by count times g f begin latest at span j₀ j t
+pub record AtLink (load : Load) (marks by : List ℕ) (count : ℕ) (times : List ℕ) (g f begin latest from at span j₀ j t other end a a-end : ℕ) : Type 0 where
+  pub packet : AtPacket load marks by count times g f begin latest from at span j₀ j t
   pub facing : Facing load by count times g f j t other end
   pub within : a ≤ a-end
   pub lacks : (m : ℕ) → m < a → has (pathFor load g) (getD (load .links) (other * 32 + m) 0) ≡ false
@@ -98,9 +98,9 @@ pub record AtLink (load : Load) (marks by : List ℕ) (count : ℕ) (times : Lis
 
 -- ---- its ends
 
-module _ {load : Load} {marks by : List ℕ} {count : ℕ} {times : List ℕ} {g f begin latest at span j t : ℕ} where
+module _ {load : Load} {marks by : List ℕ} {count : ℕ} {times : List ℕ} {g f begin latest from at span j t : ℕ} where
   -- the latest start is past
-  pub ends-past : AtTime load marks by count times g f begin latest at span j t → latest < t → {m : ℕ} → m ≡ slotsTo f begin latest
+  pub ends-past : AtTime load marks by count times g f begin latest from at span j t → latest < t → {m : ℕ} → m ≡ slotsTo f begin latest
       → SweptTo load by count times g f begin latest record { placed = Nowhere m; next = j }
   ends-past s h e = record {
     found = rw e (sweep-none (s .swept) (s .asks .some-step) latest (s .asks .order) h);
@@ -108,7 +108,7 @@ module _ {load : Load} {marks by : List ℕ} {count : ℕ} {times : List ℕ} {g
     later = λ u m z. let w : _≡_ {A = ℕ} 0 1 = cc in absurd (omega arith);
   }
 
-  module _ {j₀ : ℕ} (s : AtPacket load marks by count times g f begin latest at span j₀ j t) {m : ℕ} (e : m ≡ slotsTo f begin t) where
+  module _ {j₀ : ℕ} (s : AtPacket load marks by count times g f begin latest from at span j₀ j t) {m : ℕ} (e : m ≡ slotsTo f begin t) where
     -- the next starts when the packet is over
     pub ends-early : j < count → t + span ≤ startOf by times j → SweptTo load by count times g f begin latest record { placed = At t m; next = j }
     unfolding spanOf

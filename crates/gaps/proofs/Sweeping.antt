@@ -51,7 +51,7 @@ module _ (load : Load) (by times : List ℕ) (g j : ℕ) where
   apart-misses t h = both-not (overlaps t (spanOf load g) (startOf by times j) (spanOf load (flowOf load by j))) _ h
 
   -- it shares a link and neither is over before the other starts
-  meets-hits : (t : ℕ) → sharing ≡ true → t < endAt → startOf by times j < t + spanOf load g → hits load by times g t j ≡ true
+  pub meets-hits : (t : ℕ) → sharing ≡ true → t < endAt → startOf by times j < t + spanOf load g → hits load by times g t j ≡ true
   unfolding hits
   meets-hits t h k l = both-pass _ _ (overlaps-at t (spanOf load g) (startOf by times j) (spanOf load (flowOf load by j)) k l) h
 
@@ -98,13 +98,13 @@ grid-add begin f i d = omega (arith, add-mul i d f)
 
 module _ {load : Load} {by : List ℕ} {count : ℕ} {times : List ℕ} {g f begin : ℕ} where
   -- it starts
-  pub sweep-start : {marks : List ℕ} {latest at : ℕ} → Sweep load marks by count times g f begin latest at → Sweeping load by count times g f begin at begin
+  pub sweep-start : {marks : List ℕ} {latest from at : ℕ} → Sweep load marks by count times g f begin latest from at → Sweeping load by count times g f begin at from
   sweep-start s = record {
     within = s .within;
-    small = omega (arith, s .order, s .soon);
-    i = 0;
-    grid = omega arith;
-    blocked = λ m h. absurd (omega arith);
+    small = s .resumes .small;
+    i = s .resumes .i;
+    grid = s .resumes .grid;
+    blocked = s .resumes .blocked;
     passed = λ j h t l. over-misses load by times g j t (omega (arith, s .over j h));
   }
 

@@ -1,6 +1,6 @@
 -- What of the placed packets stands in the way of a packet, and the first gap among them.
 use mathlib.Core.Path.{_≡_}
-use mathlib.Core.Bool.{Bool, not}
+use mathlib.Core.Bool.{Bool, true, not}
 use mathlib.Core.List.{List}
 use Prim.Native.Nat.{ℕ, _+_, _-_, _*_, _/_, _≤_, _<_}
 use lib.Dec.{ltb}
@@ -55,8 +55,15 @@ gapIn load by count times g f begin latest = record {
   spot = spotIn by count times (placedIn load by count times g f begin latest);
 }
 
+-- a time from which on a gap may be sought: one of the times begin, begin + F and so on, before which there is none
+pub record Resumes (load : Load) (by : List ℕ) (count : ℕ) (times : List ℕ) (g f begin from : ℕ) : Type 0 where
+  pub small : from ≤ 50331648
+  pub i : ℕ
+  pub grid : from ≡ begin + i * f
+  pub blocked : (m : ℕ) → m < i → some (hits load by times g (begin + m * f)) count ≡ true
+
 -- what a sweep asks: settings and times in their ranges, and that what lies before its first packet is over when it begins
-pub record Sweep (load : Load) (marks by : List ℕ) (count : ℕ) (times : List ℕ) (g f begin latest at : ℕ) : Type 0 where
+pub record Sweep (load : Load) (marks by : List ℕ) (count : ℕ) (times : List ℕ) (g f begin latest from at : ℕ) : Type 0 where
   pub loaded : Loaded load
   pub marked : Marked (load .lens) (load .links) marks g
   pub kept : Kept by count times
@@ -67,4 +74,5 @@ pub record Sweep (load : Load) (marks by : List ℕ) (count : ℕ) (times : List
   pub order : begin ≤ latest
   pub soon : latest ≤ most
   pub within : at ≤ count
-  pub over : (j : ℕ) → j < at → startOf by times j + spanOf load (flowOf load by j) ≤ begin
+  pub resumes : Resumes load by count times g f begin from
+  pub over : (j : ℕ) → j < at → startOf by times j + spanOf load (flowOf load by j) ≤ from

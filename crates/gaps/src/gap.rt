@@ -28,7 +28,7 @@ pub struct Swept {
 }
 
 // The first of the times t, t + F and so on that is at an end or past it. Every cycle is a time where the pruning factor is 1.
-fn time_past(t: u32, end: u32, pruning: u32) -> u32
+pub fn time_past(t: u32, end: u32, pruning: u32) -> u32
     requires { ⌜ EndAhead t end pruning ⌝ }
     ensures { λ r. ⌜ r ≡ timePast t end pruning ⌝ }
 {
@@ -46,8 +46,8 @@ fn times_to(begin: u32, time: u32, pruning: u32) -> u32
     (time - begin) / pruning + 1
 }
 
-// The first gap for a packet of a flow, of the times from begin up to the latest, in steps of the pruning factor. Where a placed packet
-// is in the way, so it is at every time before its end: the next time is the first past it, and those jumped over count as tried. Placed
+// The first gap for a packet of a flow, of the times from begin up to the latest, in steps of the pruning factor; it is sought from a
+// time on before which there is none. Where a placed packet is in the way, so it is at every time before its end: the next time is the first past it, and those jumped over count as tried. Placed
 // packets that are over stay over, so the sweep never goes back; one that starts after the packet's end ends it, since all later ones
 // start later.
 fn sweep(
@@ -63,14 +63,15 @@ fn sweep(
     pruning: u32,
     begin: u32,
     latest: u32,
+    from: u32,
     at: usize,
 ) -> Swept
-    requires { ⌜ Sweep (loadOf (now flow) (now occupancy) (now lens) (now links)) (now marks) (now by) count (now times) own pruning begin latest at ⌝ }
+    requires { ⌜ Sweep (loadOf (now flow) (now occupancy) (now lens) (now links)) (now marks) (now by) count (now times) own pruning begin latest from at ⌝ }
     ensures { λ r. ⌜ SweptTo (loadOf (now (flow .entry)) (now (occupancy .entry)) (now (lens .entry)) (now (links .entry))) (now (by .entry)) count (now (times .entry)) own pruning begin latest r ⌝ }
 {
     let span = occupancy[own];
     let mut j = at;
-    let mut t = begin;
+    let mut t = from;
     'times: loop {
         if latest < t {
             break Swept {
@@ -147,9 +148,10 @@ pub fn gap_for(
     pruning: u32,
     begin: u32,
     latest: u32,
+    from: u32,
     at: usize,
 ) -> Gap
-    requires { ⌜ Sweep (loadOf (now flow) (now occupancy) (now lens) (now links)) (now marks) (now by) count (now times) own pruning begin latest at ⌝ }
+    requires { ⌜ Sweep (loadOf (now flow) (now occupancy) (now lens) (now links)) (now marks) (now by) count (now times) own pruning begin latest from at ⌝ }
     ensures { λ r. ⌜ r ≡ gapIn (loadOf (now (flow .entry)) (now (occupancy .entry)) (now (lens .entry)) (now (links .entry))) (now (by .entry)) count (now (times .entry)) own pruning begin latest ⌝ }
 {
     let swept = sweep(
@@ -165,6 +167,7 @@ pub fn gap_for(
         pruning,
         begin,
         latest,
+        from,
         at,
     );
     let placed = swept.placed;

@@ -28,7 +28,7 @@ use Rattle.passes.proofs.Parts.{list-moved, list-without, taken-moved, 
 use Rattle.passes.proofs.Stepping.{nextOf, few, long, next-in, next-below, list-once, behind, rises, here, latest-small}
 use Rattle.passes.proofs.PassSteps.{pass-broken, pass-skipped, placing-nowhere, slots-few}
 
-module _ {t : Traffic} {f g : ℕ} (ready : Ready t f g) {s : Stand} (going : Going (packetsHeld t) g s) (more : s .at < length (packetsHeld t)) where
+module _ {t : Traffic} {f g : ℕ} (ready : Ready t f g) {s : Stand} (going : Going (packetsHeld t) f g s) (more : s .at < length (packetsHeld t)) where
   -- the packets
   abbrev ps : List Packet
   ps = packetsHeld t
@@ -205,7 +205,7 @@ module _ {t : Traffic} {f g : ℕ} (ready : Ready t f g) {s : Stand} (going : Go
 
     -- and goes on
     pub skipped-going : turnedAway (s .state) (s .at) (nextOf s) g .again ≡ false
-        → Going (packetsHeld t) g (standOf (turnedAway (s .state) (s .at) (nextOf s) g .state) (s .times) (s .by) (s .count) (s .at + 1) (s .tries + m))
+        → Going (packetsHeld t) f g (standOf (turnedAway (s .state) (s .at) (nextOf s) g .state) (s .times) (s .by) (s .count) (s .at + 1) (s .tries + m))
     skipped-going h =
         rw (turned-skipped h)
         record {
@@ -217,5 +217,6 @@ module _ {t : Traffic} {f g : ℕ} (ready : Ready t f g) {s : Stand} (going : Go
           listed = going .listed;
           ahead = λ q l.
               ap (occurs q) (rest-moved (s .state .order) (s .state .base) (s .at) (length ps) (going .low) more (long ready going more)) ∙ behind ready going more q l;
+          tight = going .tight;
           bounded = omega (arith, going .bounded, all-few);
         }

@@ -1,6 +1,8 @@
 -- The laws of passes.
 pub mod Parts
 pub mod PassSteps
+pub mod Sound
+pub mod Tightening
 pub mod Stepping
 pub mod Failing
 pub mod Running
@@ -8,7 +10,6 @@ pub mod Along
 pub mod Fuel
 pub mod Start
 pub mod Searching
-pub mod Sound
 pub mod Complete
 pub mod Alike
 pub mod Determined

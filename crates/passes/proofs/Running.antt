@@ -41,7 +41,7 @@ pub record Running (t : Traffic) (f g : ℕ) (start : State) (n longest : ℕ) (
   pub n-is : n ≡ length (packetsHeld t)
   pub longest-is : longest ≡ t .longest
   pub honest : Honest (t .lens) (t .links) marks
-  pub going : Going (packetsHeld t) g s
+  pub going : Going (packetsHeld t) f g s
   pub same : outcome (packetsHeld t) f g s ≡ passOver (packetsHeld t) f g (listOf (length (packetsHeld t)) start) (failsOf (length (packetsHeld t)) start)
 
 -- it starts
@@ -75,6 +75,7 @@ running-start {t} {f} {g} {start} runs {times} e by-long unmarked =
         };
         listed = record { inside = λ j h. absurd (omega arith); timed = λ j h. absurd (omega arith); all = λ q h k. absurd (clear q k) };
         ahead = λ q h. absurd (clear q h);
+        tight = λ q l h. absurd (clear q h);
         bounded = omega arith;
       };
       same =

@@ -1,18 +1,22 @@
 -- One step of a pass as the code takes it: what it asks of placing, and what it leaves where the packet is placed.
 -- In order: the next packet; what is known of it; then the packet is placed. Where no time will do: proofs/Failing.antt.
-use mathlib.Core.Path.{_≡_, refl, sym, _∙_, ap, ap₂}
-use mathlib.Core.Bool.{true, false}
+use mathlib.Core.Path.{_≡_, sym, _∙_, ap, ap₂, subst}
+use mathlib.Core.Bool.{true, false, not}
 use mathlib.Core.List.{List, _∷_}
-use Prim.Native.Nat.{ℕ, _+_, _≤_, _<_}
+use Prim.Native.Nat.{ℕ, _+_, _*_, _≤_, _<_}
 use native.Mathlib.Decide.{ℕ-discrete}
 use native.Mathlib.Omega.{arith}
 use lib.ListN.{length, getD, set, take}
-use lib.Seq.{slice, getD-take}
+use lib.Seq.{slice, getD-take, length-take-le}
+use lib.Dec.{eqb}
+use borrow.Author.Tests.{ne-eqb, not-false}
+use Rattle.basics.specs.First.{some}
 use Rattle.basics.proofs.Choose.{not-passing}
+use Rattle.basics.proofs.Lists.{read-any}
 use Rattle.hyper.specs.Hyper.{most}
 use Rattle.time.specs.Units.{latestOf}
 use Rattle.packet.specs.Packet.{Packet}
-use Rattle.packet.specs.Table.{packetAt, placed}
+use Rattle.packet.specs.Table.{packetAt, timeAt, none, placed}
 use Rattle.order.specs.Order.{occurs}
 use Rattle.order.specs.Lists.{shifted, Room}
 use Rattle.order.proofs.Ordering.{occurs-same}
@@ -21,14 +25,16 @@ use Rattle.kept.proofs.OneMore.{Taking, adds, spot-within, kept-more, listed-mo
 use Rattle.marks.specs.Marks.{Honest}
 use Rattle.gaps.specs.declared.gap.Gap.{Gap}
 use Rattle.gaps.specs.declared.gap.Placed.the-variants.{At}
-use Rattle.placing.specs.Placing.{takenOf, placingOf}
+use Rattle.twins.specs.Twins.{Stood}
+use Rattle.placing.specs.Placing.{inTheWay, free, takenOf, placingOf}
 use Rattle.placing.specs.Held.{Held, Placeable, placeIn}
 use Rattle.placing.specs.Traffic.{loadIn, packetsHeld}
 use Rattle.placing.specs.declared.traffic.Traffic.{Traffic}
-use Rattle.placing.proofs.Bridging.{placing-same, place-spot, packets-count, held-in}
+use Rattle.placing.proofs.Bridging.{ways-same, placing-same, place-spot, packets-count, held-in}
 use Rattle.settling.specs.Settling.{raised}
 use Rattle.passes.specs.Pass.{passFrom}
-use Rattle.passes.specs.Stand.{failsOf, listOf, Stand, standOf, outcome, Ready, Going}
+use Rattle.passes.specs.Stand.{failsOf, listOf, Stand, standOf, outcome, Ready, Tight, Going}
+use Rattle.passes.proofs.Tightening.{tight-other, tight-new}
 use Rattle.passes.proofs.Parts.{rest-next, taken-more, list-occurs}
 use Rattle.passes.proofs.PassSteps.{pass-placed, Taken, placing-at, slots-few, time-latest}
 
@@ -36,7 +42,7 @@ use Rattle.passes.proofs.PassSteps.{pass-placed, Taken, placing-at, slo
 abbrev pub nextOf : Stand → ℕ
 nextOf s = getD (s .state .order) (s .at) 0
 
-module _ {t : Traffic} {f g : ℕ} (ready : Ready t f g) {s : Stand} (going : Going (packetsHeld t) g s) (more : s .at < length (packetsHeld t)) where
+module _ {t : Traffic} {f g : ℕ} (ready : Ready t f g) {s : Stand} (going : Going (packetsHeld t) f g s) (more : s .at < length (packetsHeld t)) where
   -- the packets, and that the arrays hold them
   abbrev ps : List Packet
   ps = packetsHeld t
@@ -57,6 +63,28 @@ module _ {t : Traffic} {f g : ℕ} (ready : Ready t f g) {s : Stand} (going : Go
   next-count : nextOf s < t .count
   next-count = omega (arith, next-in, packets-count t)
 
+  -- a placed packet stands where there was no gap before
+  stands : (q : ℕ) → q < length (packetsHeld t) → (getD (s .times) q 0 ≡ none → ⊥) → Stood (loadIn t) (t .release) (s .by) (s .count) (s .times) f q
+  unfolding placed timeAt free
+  stands q h timed =
+      let place : getD (take (length ps) (s .times)) q 0 ≡ getD (s .times) q 0 = getD-take (length ps) (s .times) q 0 h in
+      let known : getD (s .times) q none ≡ getD (s .times) q 0 = read-any (s .times) q none 0 (omega (arith, going .kept .times-long, few)) in
+      let is-placed : placed (take (length ps) (s .times)) q ≡ true =
+      ap (λ (k : ℕ). not (eqb k none)) (getD-take (length ps) (s .times) q none h ∙ known) ∙ ap not (ne-eqb _ none timed) in
+      let w = going .listed .all q h is-placed in
+      let tight = going .tight q h is-placed in
+      record {
+        j = w .0;
+        within = w .1;
+        here = w .2;
+        i = tight .i;
+        grid = sym place ∙ tight .grid ∙ ap (λ (r : ℕ). r + tight .i * f) (held .releases q h);
+        tight = λ m l.
+            sym (ways-same held (going .listed) h (getD (t .release) q 0 + m * f))
+            ∙ ap (λ (r : ℕ). some (inTheWay ps (take (length ps) (s .times)) q (r + m * f)) (length ps)) (sym (held .releases q h))
+            ∙ not-false _ (tight .taken m l);
+      }
+
   -- what placing it asks
   pub place-asks : {marks : List ℕ} → Honest (t .lens) (t .links) marks
       → Placeable (loadIn t) (t .release) (t .due) marks (s .by) (s .count) (s .times) (t .longest) f (nextOf s)
@@ -67,10 +95,12 @@ module _ {t : Traffic} {f g : ℕ} (ready : Ready t f g) {s : Stand} (going : Go
     packet = omega (arith, next-in, few);
     some-step = ready .some-step;
     small-step = ready .small-step;
-    lasting = ready .lasting (nextOf s) next-count;
+    lasting = λ q h. ready .lasting q (omega (arith, next-count));
+    some-links = ready .some-links (nextOf s) next-count;
     fits = ready .fits (nextOf s) next-count;
     ends = ready .ends (nextOf s) next-count;
     longest-of = ready .longest-of;
+    stood = λ q h timed. stands q (omega (arith, next-in)) timed;
   }
 
   -- it stands in the list once
@@ -189,8 +219,12 @@ module _ {t : Traffic} {f g : ℕ} (ready : Ready t f g) {s : Stand} (going : Go
           (sym (taken-more (s .state .order) (s .state .base) (s .at) (length ps) (going .low) more long))
           (sym (table-more takes)))
 
+      -- its place is in the table
+      front : nextOf s < length (take (length ps) (s .times))
+      front = omega (arith, next-in, length-take-le (length ps) (s .times) (omega (arith, going .kept .times-long, few)))
+
       -- and goes on
-      pub placed-going : Going (packetsHeld t) g
+      pub placed-going : Going (packetsHeld t) f g
           (standOf (s .state) (set (s .times) (nextOf s) time) (shifted (s .by) (spotOf (s .by) (s .count) (s .times) time) (s .count) (nextOf s)) (s .count + 1) (s .at + 1) (s .tries + m))
       placed-going = record {
         carried = going .carried;
@@ -204,5 +238,11 @@ module _ {t : Traffic} {f g : ℕ} (ready : Ready t f g) {s : Stand} (going : Go
               | yes a ↦ rw a (omega (arith, list-once))
               | no a ↦ behind q (sym (placed-same takes q a) ∙ h)
             ];
+        tight = λ q h l.
+            subst (λ (table : List ℕ). Tight (packetsHeld t) f table q) (sym (table-more takes))
+            (elim (ℕ-discrete q (nextOf s)) [
+              | yes a ↦ rw a (tight-new ps f (take (length ps) (s .times)) (nextOf s) time front not-placed m e)
+              | no a ↦ tight-other ps f (take (length ps) (s .times)) (nextOf s) time front not-placed q a (going .tight q h (sym (placed-same takes q a) ∙ l))
+            ]);
         bounded = omega (arith, going .bounded, tries-few);
       }

@@ -1,16 +1,17 @@
 -- A pass as the code takes it, and what holds of it.
 use mathlib.Core.Path.{_≡_}
-use mathlib.Core.Bool.{true}
+use mathlib.Core.Bool.{true, false}
 use mathlib.Core.List.{List}
 use Prim.Native.Nat.{ℕ, _+_, _*_, _≤_, _<_}
 use lib.ListN.{length, getD, take}
 use lib.Seq.{slice}
 use Rattle.hyper.specs.Hyper.{most}
 use Rattle.packet.specs.Packet.{Packet}
-use Rattle.packet.specs.Table.{placed}
+use Rattle.packet.specs.Table.{packetAt, timeAt, placed}
 use Rattle.order.specs.Order.{occurs}
 use Rattle.kept.specs.Load.{flowAt, spanOf, Loaded}
 use Rattle.kept.specs.Kept.{Kept, Roster}
+use Rattle.placing.specs.Placing.{free}
 use Rattle.placing.specs.Traffic.{loadIn, packetsHeld}
 use Rattle.placing.specs.declared.traffic.Traffic.{Traffic}
 use Rattle.settling.specs.declared.taking.State.{State}
@@ -52,6 +53,7 @@ pub record Ready (t : Traffic) (f g : ℕ) : Type 0 where
   pub low : 0 < g
   pub high : g ≤ 16
   pub lasting : (p : ℕ) → p < t .count → 0 < spanOf (loadIn t) (flowAt (loadIn t) p)
+  pub some-links : (p : ℕ) → p < t .count → 0 < getD (t .lens) (flowAt (loadIn t) p) 0
   pub fits : (p : ℕ) → p < t .count → spanOf (loadIn t) (flowAt (loadIn t) p) ≤ getD (t .due) (flowAt (loadIn t) p) 0
   pub ends : (p : ℕ) → p < t .count → getD (t .release) p 0 + getD (t .due) (flowAt (loadIn t) p) 0 ≤ most
   pub longest-of : (h : ℕ) → h < 64 → spanOf (loadIn t) h ≤ t .longest
@@ -65,8 +67,14 @@ pub record Carried (ps : List Packet) (g : ℕ) (s : State) : Type 0 where
   pub once : (q : ℕ) → occurs q (listOf (length ps) s) ≤ 1
   pub below : (q : ℕ) → 0 < occurs q (listOf (length ps) s) → getD (s .fails) q 0 < g
 
--- where a pass stands that goes on: its placed packets are kept in order, and no packet still to be taken is placed
-pub record Going (ps : List Packet) (g : ℕ) (s : Stand) : Type 0 where
+-- packet q stands at one of its times, and none before it is free
+pub record Tight (ps : List Packet) (f : ℕ) (table : List ℕ) (q : ℕ) : Type 0 where
+  pub i : ℕ
+  pub grid : timeAt table q ≡ packetAt ps q .release + i * f
+  pub taken : (m : ℕ) → m < i → free ps table q (packetAt ps q .release + m * f) ≡ false
+
+-- where a pass stands that goes on: its placed packets are kept in order and stand tight, and no packet still to be taken is placed
+pub record Going (ps : List Packet) (f g : ℕ) (s : Stand) : Type 0 where
   pub carried : Carried ps g (s .state)
   pub low : s .state .base ≤ s .at
   pub high : s .at ≤ length ps
@@ -74,6 +82,7 @@ pub record Going (ps : List Packet) (g : ℕ) (s : Stand) : Type 0 where
   pub kept : Kept (s .by) (s .count) (s .times)
   pub listed : Roster ps (s .by) (s .count) (s .times)
   pub ahead : (q : ℕ) → placed (take (length ps) (s .times)) q ≡ true → occurs q (slice (s .at) (length ps) (s .state .order)) ≡ 0
+  pub tight : (q : ℕ) → q < length ps → placed (take (length ps) (s .times)) q ≡ true → Tight ps f (take (length ps) (s .times)) q
   pub bounded : s .tries ≤ s .at * 33554432
 
 -- what a pass leaves, as the definition has it

@@ -46,6 +46,7 @@ pub fn pass(s: State, traffic: Traffic, pruning: u32, threshold: u32) -> Passed
             longest,
             &traffic.lens,
             &traffic.links,
+            &traffic.back,
             pruning,
             packet as usize,
         );

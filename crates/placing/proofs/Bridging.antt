@@ -47,7 +47,7 @@ module _ {ps : List Packet} {load : Load} {release due by : List ℕ} {count : �
       (ap₂ shares (held .paths p h) (held .paths (getD by j 0) i)))
 
   -- some packet is in the way where some listed one is hit
-  ways-same : (s : ℕ) → some (inTheWay ps table p s) (length ps) ≡ some (hits load by times (flowAt load p) s) count
+  pub ways-same : (s : ℕ) → some (inTheWay ps table p s) (length ps) ≡ some (hits load by times (flowAt load p) s) count
   unfolding inTheWay
   ways-same s = same-test _ _ forth back
     where

@@ -4,6 +4,7 @@ use gaps::gap_for;
 use kept::first_after;
 use marks::stamp;
 use mesh::ALL_LINKS;
+use twins::resume;
 ghost use mathlib.Core.Path.{_≡_};
 ghost use lib.ListN.{getD};
 ghost use Rattle.kept.specs.Load.{loadOf, flowAt};
@@ -23,7 +24,7 @@ fn not_over(by: &[u16; 1024], count: usize, times: &[u32; 1024], time: u32, long
 }
 
 // Where packet p goes, in steps of the pruning factor from its release up to its latest start, and before which of the placed packets it
-// is put in. The links of its path are marked.
+// is put in. A gap is sought behind its twin, if it has one. The links of its path are marked.
 pub fn place<'a>(
     by: &[u16; 1024],
     count: usize,
@@ -36,6 +37,7 @@ pub fn place<'a>(
     longest: u32,
     lens: &'a [usize; 64],
     links: &'a [u16; 2048],
+    back: &'a [usize; 64],
     pruning: u32,
     p: usize,
 ) -> Gap
@@ -45,7 +47,18 @@ pub fn place<'a>(
     let own = flow[p] as usize;
     let begin = release[p];
     let latest = begin + due[own] - occupancy[own];
-    let at = not_over(by, count, times, begin, longest);
+    let from = resume(
+        times,
+        flow,
+        release,
+        occupancy,
+        lens,
+        links,
+        pruning,
+        p,
+        back[own],
+    );
+    let at = not_over(by, count, times, from, longest);
     stamp(marks, lens, links, own);
     gap_for(
         by,
@@ -60,6 +73,7 @@ pub fn place<'a>(
         pruning,
         begin,
         latest,
+        from,
         at,
     )
 }

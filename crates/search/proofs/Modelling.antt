@@ -27,7 +27,7 @@ use Rattle.arrays.specs.declared.build.Model.{Model}
 use Rattle.model.proofs.Numbering.{packets-length}
 use Rattle.model.proofs.InTime.{InTime, turns-low, fair-timed, packet-in-time, packets-in-time}
 use Rattle.arrays.proofs.Entries.{occupancy-entry, path-entry, flow-entry}
-use Rattle.arrays.proofs.Reading.{read-count, read-at, model-count, packet-in}
+use Rattle.arrays.proofs.Reading.{read-count, read-at, model-count, packet-in, path-in}
 use Rattle.kept.specs.Load.{flowAt, spanOf, pathIn}
 use Rattle.placing.specs.Traffic.{packetHeld, packetsHeld}
 use Rattle.placing.specs.declared.traffic.Traffic.{Traffic}
@@ -124,6 +124,11 @@ module _ (mesh : Mesh) (numbers : List ℕ) (fair : Fair mesh numbers) where
         | yes b ↦ omega (arith, padded-past 32 0 links a 0 b l)
       ]
 
+  -- every packet's path has a link
+  routed-entry : (p : ℕ) → p < packetsIn numbers
+      → 0 < getD (modelOf mesh numbers .flows .path) (getD (modelOf mesh numbers .packets .flow) p 0) noPath .len
+  routed-entry p h = omega (arith, path-in mesh numbers fair p h, packets-in-time mesh numbers fair p h .routed)
+
   -- the model is what the search asks
   pub fair-modelled : (f g : ℕ) → 0 < f → f ≤ 65536 → 0 < g → g ≤ 16 → Modelled (modelOf mesh numbers) f g
   unfolding pathOf
@@ -138,6 +143,7 @@ module _ (mesh : Mesh) (numbers : List ℕ) (fair : Fair mesh numbers) where
         busy = λ p h. in-time p h .busy;
         fits = λ p h. in-time p h .fits;
         ends = λ p h. in-time p h .deadline-small;
+        routed = λ p h. routed-entry p (omega (arith, model-count mesh numbers fair));
         keyed = fair-keyed mesh numbers fair;
         grouped = fair-grouped mesh numbers fair;
         flows = flow-small;
@@ -179,8 +185,8 @@ module _ (paths : List Path) (links lens : List ℕ) (spread : Spread paths link
       ∙ ap (λ (m : ℕ). take m (drop (q * 32) links)) (sym n)
 
 -- what the passes read of a model, with the links in one array
-abbrev pub trafficOf : Model → ℕ → List ℕ → List ℕ → Traffic
-trafficOf model longest lens links = record {
+abbrev pub trafficOf : Model → ℕ → List ℕ → List ℕ → List ℕ → Traffic
+trafficOf model longest lens links back = record {
   count = model .packets .count;
   flow = model .packets .flow;
   release = model .packets .release;
@@ -189,6 +195,7 @@ trafficOf model longest lens links = record {
   longest = longest;
   lens = lens;
   links = links;
+  back = back;
 }
 
 module _ {model : Model} {f g : ℕ} (m : Modelled model f g) {longest : ℕ} {lens links : List ℕ}
@@ -211,7 +218,7 @@ module _ {model : Model} {f g : ℕ} (m : Modelled model f g) {longest : ℕ} {l
       ]
 
   -- what the passes ask of the packets
-  pub modelled-ready : Ready (trafficOf model longest lens links) f g
+  pub modelled-ready : {back : List ℕ} → Ready (trafficOf model longest lens links back) f g
   unfolding packetIn flowAt spanOf
   modelled-ready = record {
     few = m .grouped .few;
@@ -225,16 +232,19 @@ module _ {model : Model} {f g : ℕ} (m : Modelled model f g) {longest : ℕ} {l
     low = m .low;
     high = m .high;
     lasting = m .busy;
+    some-links = λ p h.
+        let q = m .flows p (omega (arith, m .grouped .few)) in
+        omega (arith, measured .lens-at (getD (model .packets .flow) p 0) q, m .routed p h);
     fits = λ p h. omega (arith, m .fits p h);
     ends = m .ends;
     longest-of = reaches;
   }
 
   -- the packets that the passes read are the model's, but for their turns
-  pub modelled-alike : Alike (packetsHeld (trafficOf model longest lens links)) (packetsRead model)
+  modelled-alike : (back : List ℕ) → Alike (packetsHeld (trafficOf model longest lens links back)) (packetsRead model)
   unfolding packetHeld packetIn flowAt spanOf packetAt
-  modelled-alike =
-      let t = trafficOf model longest lens links in
+  modelled-alike back =
+      let t = trafficOf model longest lens links back in
       let n = packets-count t in
       let n′ = read-count model in
       let same : (X : Type 0) (k : Packet → X) → ((p : ℕ) → p < model .packets .count → k (packetHeld t p) ≡ k (packetIn (model .flows) (model .packets) p))
@@ -257,7 +267,7 @@ module _ {model : Model} {f g : ℕ} (m : Modelled model f g) {longest : ℕ} {l
       }
 
   -- what the passes leave is what the search of the model's packets leaves, from the same list
-  pub modelled-search : {list : List ℕ} {r : Outcome} → Searched (trafficOf model longest lens links) f g list r
+  pub modelled-search : {back list : List ℕ} {r : Outcome} → Searched (trafficOf model longest lens links back) f g list r
       → (first : List ℕ) → take (model .packets .count) list ≡ first → foundOf (model .packets .count) r ≡ searchFrom first (packetsRead model) f g
-  modelled-search {list} s first e =
-      s .same ∙ search-alike modelled-alike f g (take (model .packets .count) list) ∙ ap (λ (l : List ℕ). searchFrom l (packetsRead model) f g) e
+  modelled-search {back} {list} s first e =
+      s .same ∙ search-alike (modelled-alike back) f g (take (model .packets .count) list) ∙ ap (λ (l : List ℕ). searchFrom l (packetsRead model) f g) e

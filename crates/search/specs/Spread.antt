@@ -26,6 +26,7 @@ pub record Modelled (model : Model) (f g : ℕ) : Type 0 where
   pub fits : (p : ℕ) → p < model .packets .count
       → packetIn (model .flows) (model .packets) p .release + packetIn (model .flows) (model .packets) p .occupancy ≤ packetIn (model .flows) (model .packets) p .deadline
   pub ends : (p : ℕ) → p < model .packets .count → packetIn (model .flows) (model .packets) p .deadline ≤ most
+  pub routed : (p : ℕ) → p < model .packets .count → 0 < getD (model .flows .path) (getD (model .packets .flow) p 0) noPath .len
   pub keyed : Keyed model
   pub grouped : Grouped (model .packets .flow) (model .flows .count) (model .packets .count)
   pub flows : (q : ℕ) → q < 1024 → getD (model .packets .flow) q 0 < 64

@@ -1,4 +1,5 @@
 // The passes over a model: its paths go into one array of links, 32 places to a flow.
+use crate::twinning::backs_of;
 use arrays::Model;
 use keys::slacks;
 use order::by_flow;
@@ -84,6 +85,7 @@ pub fn run(model: Model, pruning: u32, threshold: u32) -> Outcome
     let occupancy = model.flows.occupancy;
     let due = model.flows.due;
     let paths = model.flows.path;
+    let period = model.flows.period;
     let traffic = Traffic {
         count,
         flow,
@@ -93,6 +95,7 @@ pub fn run(model: Model, pruning: u32, threshold: u32) -> Outcome
         longest: longest_of(occupancy),
         lens: lens_of(paths),
         links: links_of(paths),
+        back: backs_of(paths, period, model.hyper),
     };
     rounds(list, traffic, pruning, threshold)
 }

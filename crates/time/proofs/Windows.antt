@@ -42,6 +42,13 @@ pub overlaps-at : (s a t b : ℕ) → s < t + b → t < s + a → overlaps s a t
 unfolding overlaps
 overlaps-at s a t b h k = both-pass _ _ (lt-ltb s (t + b) h) (lt-ltb t (s + a) k)
 
+-- a longer window overlaps what a shorter one from the same start does
+pub overlaps-longer : (s a a′ t b : ℕ) → a ≤ a′ → overlaps s a t b ≡ true → overlaps s a′ t b ≡ true
+unfolding overlaps
+overlaps-longer s a a′ t b h e =
+    let later = ltb-true t (s + a) (both-second (ltb s (t + b)) _ e) in
+    overlaps-at s a′ t b (ltb-true s (t + b) (both-first _ _ e)) (omega arith)
+
 -- windows that both hold a cycle overlap
 pub common-overlaps : (s a t b c : ℕ) → holds s a c ≡ true → holds t b c ≡ true → overlaps s a t b ≡ true
 common-overlaps s a t b c p q =

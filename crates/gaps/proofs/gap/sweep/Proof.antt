@@ -12,22 +12,22 @@ use Rattle.gaps.proofs.gap.sweep.Statement.{statement}
 use Rattle.gaps.proofs.gap.sweep.Tie as tie
 
 abbrev Inv-loop2 : tie.InvT-loop2
-Inv-loop2 by count times flow occupancy marks lens links own pruning begin latest at span j₀ t₀ q start other end a₀ a-end j t a = AtLink (loadOf flow occupancy lens links) marks by count times own pruning begin latest at span j₀ j t other end a a-end
+Inv-loop2 by count times flow occupancy marks lens links own pruning begin latest from at span j₀ t₀ q start other end a₀ a-end j t a = AtLink (loadOf flow occupancy lens links) marks by count times own pruning begin latest from at span j₀ j t other end a a-end
 
 abbrev μ-loop2 : tie.MeasureT-loop2
-μ-loop2 by count times flow occupancy marks lens links own pruning begin latest at span j₀ t₀ q start other end a₀ a-end j t a = a-end - a
+μ-loop2 by count times flow occupancy marks lens links own pruning begin latest from at span j₀ t₀ q start other end a₀ a-end j t a = a-end - a
 
 abbrev Inv-loop : tie.InvT-loop
-Inv-loop by count times flow occupancy marks lens links own pruning begin latest at span j₀ t₀ j t = AtPacket (loadOf flow occupancy lens links) marks by count times own pruning begin latest at span j₀ j t
+Inv-loop by count times flow occupancy marks lens links own pruning begin latest from at span j₀ t₀ j t = AtPacket (loadOf flow occupancy lens links) marks by count times own pruning begin latest from at span j₀ j t
 
 abbrev μ-loop : tie.MeasureT-loop
-μ-loop by count times flow occupancy marks lens links own pruning begin latest at span j₀ t₀ j t = count - j
+μ-loop by count times flow occupancy marks lens links own pruning begin latest from at span j₀ t₀ j t = count - j
 
 abbrev Inv-times : tie.InvT-times
-Inv-times by count times flow occupancy marks lens links own pruning begin latest at span j₀ t₀ j t = AtTime (loadOf flow occupancy lens links) marks by count times own pruning begin latest at span j t
+Inv-times by count times flow occupancy marks lens links own pruning begin latest from at span j₀ t₀ j t = AtTime (loadOf flow occupancy lens links) marks by count times own pruning begin latest from at span j t
 
 abbrev μ-times : tie.MeasureT-times
-μ-times by count times flow occupancy marks lens links own pruning begin latest at span j₀ t₀ j t = count - j
+μ-times by count times flow occupancy marks lens links own pruning begin latest from at span j₀ t₀ j t = count - j
 
 mul-span : tie.Need-mul-span Inv-loop2 μ-loop2 Inv-loop μ-loop Inv-times μ-times
 mul-span c = omega (arith, c .pre .flow)
@@ -37,7 +37,7 @@ element-copy-out-span c = c .pre .flow
 
 times-holds : tie.Need-times-holds Inv-loop2 μ-loop2 Inv-loop μ-loop Inv-times μ-times
 unfolding spanOf
-times-holds c = record { asks = c .before .pre; span-is = refl; small-span = c .before .pre .loaded .spans _ (c .before .pre .flow); swept = sweep-start (c .before .pre); after = omega arith }
+times-holds c = record { asks = c .before .pre; span-is = refl; small-span = c .before .pre .loaded .spans _ (c .before .pre .flow); swept = sweep-start (c .before .pre); after = omega (arith, c .before .pre .resumes .grid) }
 
 times-to-requires : tie.Need-times-to-requires Inv-loop2 μ-loop2 Inv-loop μ-loop Inv-times μ-times
 times-to-requires c κs = let s = c .before .times .inv .asks in (s .order, s .some-step, omega (arith, s .soon))

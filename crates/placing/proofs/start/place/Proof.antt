@@ -1,9 +1,8 @@
--- `place` marks the links of its path and sweeps from the first packet that may not be over.
-use mathlib.Core.Path.{_≡_, refl, _∙_}
+-- `place` resumes behind a twin, marks the links of its path and sweeps from the first packet that may not be over.
 use native.Mathlib.Omega.{arith}
 use Rattle.kept.specs.Load.{flowAt, spanOf}
 use Rattle.placing.specs.Held.{latestAt, placeIn}
-use Rattle.placing.proofs.Asking.{own-flow, sweep-asks}
+use Rattle.placing.proofs.Asking.{own-flow, resume-asks, sweep-asks}
 use borrow.Author.Needs.{needs}
 use Rattle.placing.proofs.start.place.Statement.{statement}
 use Rattle.placing.proofs.start.place.Tie as tie
@@ -48,16 +47,27 @@ sub-latest : tie.Need-sub-latest
 unfolding flowAt spanOf
 sub-latest c = omega (arith, c .before .before .before .before .pre .fits)
 
+mul-resume : tie.Need-mul-resume
+unfolding flowAt
+mul-resume c = omega (arith, own-flow (c .before .before .before .before .pre))
+
+element-copy-out-resume : tie.Need-element-copy-out-resume
+unfolding flowAt
+element-copy-out-resume c = own-flow (c .before .before .before .before .pre)
+
+resume-requires : tie.Need-resume-requires
+resume-requires c κs = resume-asks (c .before .before .before .before .before .pre)
+
 not-over-requires : tie.Need-not-over-requires
-not-over-requires c κs = c .before .before .before .before .pre .kept
+not-over-requires c κs = c .before .before .before .before .before .before .pre .kept
 
 stamp-requires : tie.Need-stamp-requires
 unfolding flowAt
-stamp-requires c κs = (c .before .before .before .before .before .before .pre .loaded .paths, own-flow (c .before .before .before .before .before .before .pre), c .before .before .before .before .before .before .pre .honest .long)
+stamp-requires c κs = (c .before .before .before .before .before .before .before .before .pre .loaded .paths, own-flow (c .before .before .before .before .before .before .before .before .pre), c .before .before .before .before .before .before .before .before .pre .honest .long)
 
 gap-for-requires : tie.Need-gap-for-requires
 unfolding flowAt latestAt spanOf
-gap-for-requires c κs = sweep-asks (c .before .before .before .before .before .before .before .before .pre) (c .before .before .before .not-over .ensures) (c .before .stamp .ensures)
+gap-for-requires c κs = sweep-asks (c .before .before .before .before .before .before .before .before .before .before .pre) _ (c .before .before .before .before .resume .ensures) (c .before .before .before .not-over .ensures) (c .before .stamp .ensures)
 
 returns : tie.Need-returns
 unfolding placeIn flowAt latestAt spanOf
@@ -78,6 +88,9 @@ place-spec =
     mul-latest-2
     element-copy-out-latest-2
     sub-latest
+    mul-resume
+    element-copy-out-resume
+    resume-requires
     not-over-requires
     stamp-requires
     gap-for-requires

@@ -20,13 +20,16 @@ lens-of-requires : tie.Need-lens-of-requires
 lens-of-requires c κs = search needs
 
 links-of-requires : tie.Need-links-of-requires
-links-of-requires c κs = c .before .before .before .before .before .before .before .before .before .before .before .pre .whole
+links-of-requires c κs = c .before .before .before .before .before .before .before .before .before .before .before .before .pre .whole
+
+backs-of-requires : tie.Need-backs-of-requires
+backs-of-requires c κs = search needs
 
 rounds-requires : tie.Need-rounds-requires
-rounds-requires c κs = record { ready = modelled-ready (c .before .before .before .before .before .before .before .before .before .before .before .before .pre) (c .before .before .longest-of .ensures) (c .before .lens-of .ensures) (c .links-of .ensures); listing = listing-sorted _ _ _ (search needs) (c .before .before .before .before .before .before .before .by-flow .ensures) }
+rounds-requires c κs = record { ready = modelled-ready (c .before .before .before .before .before .before .before .before .before .before .before .before .before .before .pre) (c .before .before .before .longest-of .ensures) (c .before .before .lens-of .ensures) (c .before .links-of .ensures); listing = listing-sorted _ _ _ (search needs) (c .before .before .before .before .before .before .before .before .before .by-flow .ensures) }
 
 returns : tie.Need-returns
-returns c = (modelled-search (c .before .before .before .before .before .before .before .before .before .before .before .before .before .pre) (c .before .before .before .longest-of .ensures) (c .before .before .lens-of .ensures) (c .before .links-of .ensures) (c .rounds .ensures) _ (c .before .before .before .before .before .before .before .before .by-flow .ensures ∙ slack-order (c .before .before .before .before .before .before .before .before .before .before .before .before .before .pre) _ (c .before .before .before .before .before .before .before .before .before .before .before .before .slacks .ensures)), c .rounds .ensures .times-long)
+returns c = (modelled-search (c .before .before .before .before .before .before .before .before .before .before .before .before .before .before .before .pre) (c .before .before .before .before .longest-of .ensures) (c .before .before .before .lens-of .ensures) (c .before .before .links-of .ensures) (c .rounds .ensures) _ (c .before .before .before .before .before .before .before .before .before .before .by-flow .ensures ∙ slack-order (c .before .before .before .before .before .before .before .before .before .before .before .before .before .before .before .pre) _ (c .before .before .before .before .before .before .before .before .before .before .before .before .before .before .slacks .ensures)), c .rounds .ensures .times-long)
 
 pub run-spec : {M : Type 1} → statement M
 run-spec =
@@ -37,5 +40,6 @@ run-spec =
     longest-of-requires
     lens-of-requires
     links-of-requires
+    backs-of-requires
     rounds-requires
     returns)

@@ -1,0 +1,3 @@
+-- The laws of twins, and that the answer is determined.
+pub mod Twinning
+pub mod Determined

@@ -1,0 +1,2 @@
+-- Twins.
+pub mod Twins
