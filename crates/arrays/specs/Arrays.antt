@@ -6,6 +6,7 @@ use lib.ListN.{length, getD}
 use Rattle.basics.specs.Lists.{tabulate, padded}
 use Rattle.routes.specs.Route.{pathOf, linksOf}
 use Rattle.routes.specs.declared.paths.Path.{Path}
+use Rattle.hyper.specs.Hyper.{most}
 use Rattle.packet.specs.Packet.{Packet}
 use Rattle.model.specs.Flows.{periodOf, dueOf, flowsIn, linksOfFlow, occupancyIn}
 use Rattle.model.specs.Packets.{hyperIn, packetsIn, packetsOf}
@@ -77,7 +78,7 @@ packetsRead model = tabulate (packetIn (model .flows) (model .packets)) 0 (model
 pub record InBounds (flows : Flows) (packets : Packets) : Type 0 where
   pub few : packets .count ≤ 1024
   pub flow-in : (p : ℕ) → p < packets .count → getD (packets .flow) p 0 < 64
-  pub soon : (p : ℕ) → p < packets .count → packetIn flows packets p .deadline ≤ 16777216
+  pub soon : (p : ℕ) → p < packets .count → packetIn flows packets p .deadline ≤ most
   pub fits : (p : ℕ) → p < packets .count → packetIn flows packets p .release + packetIn flows packets p .occupancy ≤ packetIn flows packets p .deadline
   pub short : (p : ℕ) → p < packets .count → getD (flows .path) (getD (packets .flow) p 0) noPath .len ≤ 32
 
@@ -85,5 +86,5 @@ pub record InBounds (flows : Flows) (packets : Packets) : Type 0 where
 pub record Packable (numbers : List ℕ) (hyper : ℕ) : Type 0 where
   pub timed : Timed numbers
   pub hyper-is : hyper ≡ hyperIn numbers
-  pub hyper-high : hyper ≤ 16777216
+  pub hyper-high : hyper ≤ most
   pub packets-high : packetsIn numbers ≤ 1024

@@ -10,6 +10,7 @@ use routes::route;
 ghost use mathlib.Core.Path.{_≡_};
 ghost use mathlib.Core.List.{[]};
 ghost use Prim.Native.Nat.{_≤_};
+ghost use Rattle.hyper.specs.Hyper.{most};
 ghost use Rattle.model.specs.Flows.{flowsIn};
 ghost use Rattle.model.specs.Packets.{hyperIn, packetsOf};
 ghost use Rattle.model.specs.Fair.{Fair, Timed};
@@ -41,7 +42,7 @@ pub struct Model {
 
 // The hyper-period of a model that is not refused.
 fn hyper_of(numbers: &[u32]) -> u32
-    requires { ⌜ Timed (now numbers) × (hyperIn (now numbers) ≤ 16777216) ⌝ }
+    requires { ⌜ Timed (now numbers) × (hyperIn (now numbers) ≤ most) ⌝ }
     ensures { λ r. ⌜ r ≡ hyperIn (now (numbers .entry)) ⌝ }
 {
     match hyper_in(numbers) {

@@ -47,7 +47,7 @@ fn times_to(begin: u32, time: u32, pruning: u32) -> u32
 }
 
 // The first gap for a packet of a flow, of the times from begin up to the latest, in steps of the pruning factor; it is sought from a
-// time on before which there is none. Where a placed packet is in the way, so it is at every time before its end: the next time is the first past it, and those jumped over count as tried. Placed
+// time on before which there is none. Where a placed packet is in the way, so it is at every time before its end: the next time is the first at its end or past it, and those jumped over count as tried. Placed
 // packets that are over stay over, so the sweep never goes back; one that starts after the packet's end ends it, since all later ones
 // start later.
 fn sweep(

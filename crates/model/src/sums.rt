@@ -6,7 +6,7 @@ use hyper::hyper_period;
 ghost use mathlib.Core.Path.{_≡_};
 ghost use Prim.Native.Nat.{_≤_};
 ghost use Rattle.basics.specs.Lists.{padded};
-ghost use Rattle.hyper.specs.Hyper.{hyperWithin};
+ghost use Rattle.hyper.specs.Hyper.{hyperWithin, most};
 ghost use Rattle.model.specs.Packets.{periodsOf, hyperIn, packetsIn};
 ghost use Rattle.model.specs.Fair.{Timed};
 
@@ -35,7 +35,7 @@ pub fn hyper_in(numbers: &[u32]) -> Hyper
 
 // How many packets there are in a hyper-period.
 pub fn packets_in(numbers: &[u32], hyper: u32) -> u32
-    requires { ⌜ Timed (now numbers) × (hyper ≡ hyperIn (now numbers)) × (hyper ≤ 16777216) ⌝ }
+    requires { ⌜ Timed (now numbers) × (hyper ≡ hyperIn (now numbers)) × (hyper ≤ most) ⌝ }
     ensures { λ r. ⌜ r ≡ packetsIn (now (numbers .entry)) ⌝ }
 {
     let mut sum: u32 = 0;

@@ -10,6 +10,7 @@ use Rattle.basics.specs.Choose.{both}
 use Rattle.basics.proofs.Choose.{both-pass, both-not}
 use Rattle.routes.specs.Share.{shares}
 use Rattle.time.specs.Window.{overlaps}
+use Rattle.hyper.specs.Hyper.{most}
 use Rattle.packet.specs.Packet.{collide}
 use Rattle.packet.specs.Table.{timeAt}
 use Rattle.packet.proofs.Packet.{start-done}
@@ -21,7 +22,7 @@ use Rattle.pairs.specs.Scan.{meetsIn, Timely}
 
 -- a packet whose time is in range is over by 16,777,216
 pub over-soon : (flows : Flows) (packets : Packets) (table : List ℕ) → Timely flows packets table → (p : ℕ) → p < packets .count
-    → timeAt table p + packetIn flows packets p .occupancy ≤ 16777216
+    → timeAt table p + packetIn flows packets p .occupancy ≤ most
 unfolding strays
 over-soon flows packets table t p h =
     let ready = t .scan .ready in

@@ -10,9 +10,9 @@ use lib.Seq.{getD-take}
 use Rattle.basics.proofs.Each.{each-at}
 use Rattle.order.specs.Order.{sorted, occurs}
 use Rattle.order.proofs.Ordering.{sorted-once, sorted-none, sorted-length, sorted-below}
-use Rattle.passes.specs.Search.{Listing}
+use Rattle.passes.specs.Search.{Enlisted}
 
-pub listing-sorted : (key : ℕ → ℕ) (list : List ℕ) (n : ℕ) → length list ≡ 1024 → take n list ≡ sorted key 0 n → Listing list n
+pub listing-sorted : (key : ℕ → ℕ) (list : List ℕ) (n : ℕ) → length list ≡ 1024 → take n list ≡ sorted key 0 n → Enlisted list n
 listing-sorted key list n long e = record {
   long = long;
   numbers = λ j h.

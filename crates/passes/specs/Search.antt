@@ -16,7 +16,7 @@ unfoldable pub foundOf : ℕ → Outcome → Found
 foundOf n r = record { table = take n (r .times); passes = r .passes; tries = r .tries }
 
 -- the list that the passes begin with holds packets, each at most once
-pub record Listing (list : List ℕ) (n : ℕ) : Type 0 where
+pub record Enlisted (list : List ℕ) (n : ℕ) : Type 0 where
   pub long : length list ≡ 1024
   pub numbers : (j : ℕ) → j < n → getD list j 0 < n
   pub once : (q : ℕ) → occurs q (take n list) ≤ 1
@@ -24,7 +24,7 @@ pub record Listing (list : List ℕ) (n : ℕ) : Type 0 where
 -- what the passes ask: packets in time, and their list
 pub record Searches (t : Traffic) (f g : ℕ) (list : List ℕ) : Type 0 where
   pub ready : Ready t f g
-  pub listing : Listing list (t .count)
+  pub listing : Enlisted list (t .count)
 
 -- they leave what the definition says
 pub record Searched (t : Traffic) (f g : ℕ) (list : List ℕ) (r : Outcome) : Type 0 where

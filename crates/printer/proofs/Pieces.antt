@@ -10,7 +10,7 @@ use lib.ListN.{length, getD, drop, length-append}
 use Rattle.model.specs.declared.answers.Answer.{Answer}
 use Rattle.words.specs.Writer.{Put, inFront}
 use Rattle.words.proofs.Putting.{put-front}
-use Rattle.printer.specs.Printer.{tableLine, injectLine, refuseLine, printsTable, injectOf, injectLines, endOf, outputOf, pieceAt, nextOf, isDone, longest, pieceIn, nextIn, pieceOf, Printed, restOf, piecesLeft, piecesOf}
+use Rattle.printer.specs.Printer.{tableLine, injectLine, refuseLine, printsTable, injectOf, injectLines, endFor, outputOf, pieceAt, cursorAfter, isDone, longest, pieceIn, nextIn, pieceOf, Printed, restOf, piecesLeft, piecesOf}
 use Rattle.printer.specs.declared.printing.Cursor.{Cursor}
 use Rattle.printer.specs.declared.printing.Cursor.the-variants.{First, Packet, Done}
 use Rattle.printer.specs.declared.printing.Piece.{Piece}
@@ -18,20 +18,20 @@ use Rattle.printer.specs.declared.printing.Piece.{Piece}
 -- ---- the cursor behind each line
 
 module _ (answer : Answer) where
-  pub behind-table : printsTable (answer .number) ≡ true → nextOf answer First ≡ Packet 0
-  unfolding nextOf
+  pub behind-table : printsTable (answer .number) ≡ true → cursorAfter answer First ≡ Packet 0
+  unfolding cursorAfter
   behind-table e = rw e
 
-  pub behind-refuse : printsTable (answer .number) ≡ false → nextOf answer First ≡ Done
-  unfolding nextOf
+  pub behind-refuse : printsTable (answer .number) ≡ false → cursorAfter answer First ≡ Done
+  unfolding cursorAfter
   behind-refuse e = rw e
 
-  pub behind-packet : (p : ℕ) → p < answer .packets → nextOf answer (Packet p) ≡ Packet (p + 1)
-  unfolding nextOf
+  pub behind-packet : (p : ℕ) → p < answer .packets → cursorAfter answer (Packet p) ≡ Packet (p + 1)
+  unfolding cursorAfter
   behind-packet p h = rw (lt-ltb p (answer .packets) h)
 
-  pub behind-end : (p : ℕ) → answer .packets ≤ p → nextOf answer (Packet p) ≡ Done
-  unfolding nextOf
+  pub behind-end : (p : ℕ) → answer .packets ≤ p → cursorAfter answer (Packet p) ≡ Done
+  unfolding cursorAfter
   behind-end p h = rw (le-ltb p (answer .packets) h)
 
 -- ---- what the printer answers
@@ -48,7 +48,7 @@ no-room answer table flows turns before cursor h = record {
 module _ (answer : Answer) (table flows turns : List ℕ) where
   module _ (before after : List ℕ) (h : longest ≤ length before) where
     -- a line that was put in front of the buffer
-    pub a-line : (cursor next : Cursor) (text : List ℕ) (len : ℕ) → pieceAt answer table flows turns cursor ≡ text → nextOf answer cursor ≡ next
+    pub a-line : (cursor next : Cursor) (text : List ℕ) (len : ℕ) → pieceAt answer table flows turns cursor ≡ text → cursorAfter answer cursor ≡ next
         → Put longest before after 0 text len
         → Printed answer table flows turns before after cursor (record { len = len; next = next; done = isDone next })
     unfolding pieceIn nextIn pieceOf
@@ -61,7 +61,7 @@ module _ (answer : Answer) (table flows turns : List ℕ) where
 
     -- behind all lines
     pub no-line : after ≡ before → Printed answer table flows turns before after Done (record { len = 0; next = Done; done = true })
-    unfolding pieceIn nextIn pieceOf pieceAt nextOf isDone inFront
+    unfolding pieceIn nextIn pieceOf pieceAt cursorAfter isDone inFront
     no-line e = record {
       answer-is = sym (rw (le-ltb (length before) longest h));
       buffer-is = rw (le-ltb (length before) longest h) e;
@@ -83,7 +83,7 @@ module _ (answer : Answer) (table flows turns : List ℕ) where
   unfolding pieceAt injectOf
   packet-line p h flow turn time f t s = rw (lt-ltb p (answer .packets) h, f, t, s)
 
-  pub end-line : (p : ℕ) → answer .packets ≤ p → pieceAt answer table flows turns (Packet p) ≡ endOf answer
+  pub end-line : (p : ℕ) → answer .packets ≤ p → pieceAt answer table flows turns (Packet p) ≡ endFor answer
   unfolding pieceAt
   end-line p h = rw (le-ltb p (answer .packets) h)
 
@@ -91,45 +91,45 @@ module _ (answer : Answer) (table flows turns : List ℕ) where
 
   -- the text from a cursor on is the line there, and the text behind it
   pub piece-by-piece : (cursor : Cursor)
-      → restOf answer table flows turns cursor ≡ pieceAt answer table flows turns cursor ++ restOf answer table flows turns (nextOf answer cursor)
-  unfolding restOf outputOf pieceAt nextOf injectLines
+      → restOf answer table flows turns cursor ≡ pieceAt answer table flows turns cursor ++ restOf answer table flows turns (cursorAfter answer cursor)
+  unfolding restOf outputOf pieceAt cursorAfter injectLines
   piece-by-piece First = go (printsTable (answer .number)) refl
     where
       go : (t : Bool) → printsTable (answer .number) ≡ t
-          → outputOf answer table flows turns ≡ pieceAt answer table flows turns First ++ restOf answer table flows turns (nextOf answer First)
+          → outputOf answer table flows turns ≡ pieceAt answer table flows turns First ++ restOf answer table flows turns (cursorAfter answer First)
       go true e =
           rw e
-          (ap (λ (k : ℕ). tableLine (answer .hyper) (answer .packets) ++ (injectLines table flows turns 0 k ++ endOf answer))
+          (ap (λ (k : ℕ). tableLine (answer .hyper) (answer .packets) ++ (injectLines table flows turns 0 k ++ endFor answer))
           (let k : answer .packets ≡ answer .packets - 0 = omega arith in k))
       go false e = rw e (sym (append-nil (refuseLine (answer .number) (answer .place))))
   piece-by-piece (Packet p) = go (ltb p (answer .packets)) refl
     where
       go : (t : Bool) → ltb p (answer .packets) ≡ t
-          → injectLines table flows turns p (answer .packets - p) ++ endOf answer
-          ≡ pieceAt answer table flows turns (Packet p) ++ restOf answer table flows turns (nextOf answer (Packet p))
+          → injectLines table flows turns p (answer .packets - p) ++ endFor answer
+          ≡ pieceAt answer table flows turns (Packet p) ++ restOf answer table flows turns (cursorAfter answer (Packet p))
       go true e =
           let h = ltb-true p (answer .packets) e in
           rw e
-          (ap (λ (k : ℕ). injectLines table flows turns p k ++ endOf answer) (let k : answer .packets - p ≡ suc (answer .packets - (p + 1)) = omega arith in k)
-          ∙ append-assoc (injectOf table flows turns p) (injectLines table flows turns (p + 1) (answer .packets - (p + 1))) (endOf answer))
+          (ap (λ (k : ℕ). injectLines table flows turns p k ++ endFor answer) (let k : answer .packets - p ≡ suc (answer .packets - (p + 1)) = omega arith in k)
+          ∙ append-assoc (injectOf table flows turns p) (injectLines table flows turns (p + 1) (answer .packets - (p + 1))) (endFor answer))
       go false e =
           let h = ltb-false p (answer .packets) e in
           rw e
-          (ap (λ (k : ℕ). injectLines table flows turns p k ++ endOf answer) (let k : answer .packets - p ≡ 0 = omega arith in k)
-          ∙ sym (append-nil (endOf answer)))
+          (ap (λ (k : ℕ). injectLines table flows turns p k ++ endFor answer) (let k : answer .packets - p ≡ 0 = omega arith in k)
+          ∙ sym (append-nil (endFor answer)))
   piece-by-piece Done = refl
 
   -- each piece leaves one fewer, at least
-  pub pieces-fewer : (cursor : Cursor) → piecesLeft answer (nextOf answer cursor) ≤ piecesLeft answer cursor - 1
-  unfolding piecesLeft nextOf
+  pub pieces-fewer : (cursor : Cursor) → piecesLeft answer (cursorAfter answer cursor) ≤ piecesLeft answer cursor - 1
+  unfolding piecesLeft cursorAfter
   pieces-fewer First = go (printsTable (answer .number)) refl
     where
-      go : (t : Bool) → printsTable (answer .number) ≡ t → piecesLeft answer (nextOf answer First) ≤ piecesLeft answer First - 1
+      go : (t : Bool) → printsTable (answer .number) ≡ t → piecesLeft answer (cursorAfter answer First) ≤ piecesLeft answer First - 1
       go true e = rw e (omega arith)
       go false e = rw e (omega arith)
   pieces-fewer (Packet p) = go (ltb p (answer .packets)) refl
     where
-      go : (t : Bool) → ltb p (answer .packets) ≡ t → piecesLeft answer (nextOf answer (Packet p)) ≤ piecesLeft answer (Packet p) - 1
+      go : (t : Bool) → ltb p (answer .packets) ≡ t → piecesLeft answer (cursorAfter answer (Packet p)) ≤ piecesLeft answer (Packet p) - 1
       go true e = rw e (omega (arith, ltb-true p (answer .packets) e))
       go false e = rw e (omega arith)
   pieces-fewer Done = omega arith
@@ -147,7 +147,7 @@ module _ (answer : Answer) (table flows turns : List ℕ) where
   pieces-are zero cursor h = sym (none-left cursor h)
   pieces-are (suc n) cursor h =
       ap (λ (l : List ℕ). pieceAt answer table flows turns cursor ++ l)
-      (pieces-are n (nextOf answer cursor) (omega (arith, pieces-fewer cursor)))
+      (pieces-are n (cursorAfter answer cursor) (omega (arith, pieces-fewer cursor)))
       ∙ sym (piece-by-piece cursor)
 
   -- all pieces are the output text

@@ -48,14 +48,14 @@ injectLines table flows turns p zero = []
 injectLines table flows turns p (suc n) = injectOf table flows turns p ++ injectLines table flows turns (p + 1) n
 
 -- the line behind the packets' lines
-unfoldable pub endOf : Answer → List ℕ
-endOf answer = endLine (answer .passes) (answer .tries) (answer .skipped)
+unfoldable pub endFor : Answer → List ℕ
+endFor answer = endLine (answer .passes) (answer .tries) (answer .skipped)
 
 -- the output text: the table, or for any number but 0 and 13 one refuse line
 unfoldable pub outputOf : Answer → List ℕ → List ℕ → List ℕ → List ℕ
 outputOf answer table flows turns =
     choose (printsTable (answer .number))
-    (tableLine (answer .hyper) (answer .packets) ++ (injectLines table flows turns 0 (answer .packets) ++ endOf answer))
+    (tableLine (answer .hyper) (answer .packets) ++ (injectLines table flows turns 0 (answer .packets) ++ endFor answer))
     (refuseLine (answer .number) (answer .place))
 
 -- ---- the same text piece by piece
@@ -64,14 +64,14 @@ outputOf answer table flows turns =
 unfoldable pub pieceAt : Answer → List ℕ → List ℕ → List ℕ → Cursor → List ℕ
 pieceAt answer table flows turns First =
     choose (printsTable (answer .number)) (tableLine (answer .hyper) (answer .packets)) (refuseLine (answer .number) (answer .place))
-pieceAt answer table flows turns (Packet p) = choose (ltb p (answer .packets)) (injectOf table flows turns p) (endOf answer)
+pieceAt answer table flows turns (Packet p) = choose (ltb p (answer .packets)) (injectOf table flows turns p) (endFor answer)
 pieceAt answer table flows turns Done = []
 
 -- the cursor behind that line
-unfoldable pub nextOf : Answer → Cursor → Cursor
-nextOf answer First = choose (printsTable (answer .number)) (Packet 0) Done
-nextOf answer (Packet p) = choose (ltb p (answer .packets)) (Packet (p + 1)) Done
-nextOf answer Done = Done
+unfoldable pub cursorAfter : Answer → Cursor → Cursor
+cursorAfter answer First = choose (printsTable (answer .number)) (Packet 0) Done
+cursorAfter answer (Packet p) = choose (ltb p (answer .packets)) (Packet (p + 1)) Done
+cursorAfter answer Done = Done
 
 -- whether nothing is left at a cursor
 unfoldable pub isDone : Cursor → Bool
@@ -89,7 +89,7 @@ pieceIn room answer table flows turns cursor = choose (ltb room longest) [] (pie
 
 -- the cursor behind it; a buffer with no room ends the text
 unfoldable pub nextIn : ℕ → Answer → Cursor → Cursor
-nextIn room answer cursor = choose (ltb room longest) Done (nextOf answer cursor)
+nextIn room answer cursor = choose (ltb room longest) Done (cursorAfter answer cursor)
 
 -- the piece: how long its line is, the cursor behind it, and whether nothing is left there
 unfoldable pub pieceOf : List ℕ → Cursor → Piece
@@ -103,7 +103,7 @@ pub record Printed (answer : Answer) (table flows turns before after : List ℕ)
 -- the text from a cursor on
 unfoldable pub restOf : Answer → List ℕ → List ℕ → List ℕ → Cursor → List ℕ
 restOf answer table flows turns First = outputOf answer table flows turns
-restOf answer table flows turns (Packet p) = injectLines table flows turns p (answer .packets - p) ++ endOf answer
+restOf answer table flows turns (Packet p) = injectLines table flows turns p (answer .packets - p) ++ endFor answer
 restOf answer table flows turns Done = []
 
 -- how many pieces stand from a cursor on, at most
@@ -120,4 +120,4 @@ mostLines = 1024 + 2
 unfoldable pub piecesOf : Answer → List ℕ → List ℕ → List ℕ → ℕ → Cursor → List ℕ
 piecesOf answer table flows turns zero cursor = []
 piecesOf answer table flows turns (suc n) cursor =
-    pieceAt answer table flows turns cursor ++ piecesOf answer table flows turns n (nextOf answer cursor)
+    pieceAt answer table flows turns cursor ++ piecesOf answer table flows turns n (cursorAfter answer cursor)

@@ -1,4 +1,4 @@
--- The paths of the flows in one array of links, and packets as a model's arrays hold them.
+-- The paths of the flows in one array of links, and what the search asks of a model.
 use mathlib.Core.Path.{_≡_}
 use mathlib.Core.List.{List}
 use Prim.Native.Nat.{ℕ, _+_, _*_, _≤_, _<_}

@@ -1,5 +1,5 @@
 // The search: refusals first, then the passes, then the table and the answer.
-use crate::spread::run;
+use crate::carrying::run;
 use arrays::model_of;
 use limits::out_of_range;
 use model::Answer;

@@ -1,2 +1,2 @@
--- A packet takes a time, or is turned away.
+-- The state once a packet was turned away, and what that asks.
 pub mod Settling

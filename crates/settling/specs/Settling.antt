@@ -1,4 +1,4 @@
--- A packet takes a time, or its fail count rises and it is turned away.
+-- The fail count of a packet that is turned away, and the state that this leaves.
 use mathlib.Core.Path.{_≡_}
 use mathlib.Core.List.{List}
 use Prim.Native.Nat.{ℕ, _+_, _≤_, _<_}

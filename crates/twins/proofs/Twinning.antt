@@ -19,6 +19,7 @@ use Rattle.routes.specs.Share.{shares}
 use Rattle.routes.proofs.Common.{shares-at}
 use Rattle.time.specs.Window.{overlaps}
 use Rattle.time.proofs.Windows.{overlaps-longer}
+use Rattle.hyper.specs.Hyper.{most}
 use Rattle.packet.specs.Table.{none}
 use Rattle.kept.specs.Load.{Load, flowAt, spanOf, pathIn, pathFor, Paths}
 use Rattle.kept.specs.Kept.{startOf, Kept}
@@ -91,7 +92,7 @@ module _ (load : Load) (by : List ℕ) (count : ℕ) (times : List ℕ) (g h : �
 -- ---- the time from which on a gap is sought
 
 module _ {load : Load} {release by : List ℕ} {count : ℕ} {times : List ℕ} {f p : ℕ} (asks : Resume load times f p)
-    (soon : getD release p 0 ≤ 16777216) (some-links : 0 < getD (load .lens) (flowAt load p) 0)
+    (soon : getD release p 0 ≤ most) (some-links : 0 < getD (load .lens) (flowAt load p) 0)
     (stood : (q : ℕ) → q < p → (getD times q 0 ≡ none → ⊥) → Stood load release by count times f q) where
   -- at its release
   at-release : Resumes load by count times (flowAt load p) f (getD release p 0) (getD release p 0)

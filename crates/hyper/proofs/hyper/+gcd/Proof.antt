@@ -1,4 +1,4 @@
--- `time::hyper::gcd` meets its contract, by the two equations of `gcdOf` in proofs/Divisor.antt. The measure is the second number, which a remainder is below.
+-- `hyper::hyper::gcd` meets its contract, by the two equations of `gcdOf` in proofs/Divisor.antt. The measure is the second number, which a remainder is below.
 use borrow.Author.Needs.{needs}
 use mathlib.Core.Path.{_≡_, sym, _∙_}
 use Prim.Native.Nat.{ℕ, _<_}

@@ -1,4 +1,4 @@
--- `time::hyper::hyper_period` meets its contract, by the laws of H in proofs/HyperPeriod.antt. The loop's invariant is `Folded`, what one
+-- `hyper::hyper::hyper_period` meets its contract, by the laws of H in proofs/HyperPeriod.antt. The loop's invariant is `Folded`, what one
 -- turn knows is `Turn`; an early stop is right since H is not below the fold of a part of the periods (`part-above`).
 use borrow.Author.Needs.{needs}
 use mathlib.Core.Path.{_≡_, refl, sym, _∙_, ap}

@@ -1,5 +1,5 @@
 -- `printer::printing::put_packet` meets its contract: the line at a packet's cursor is put in front.
-use Rattle.printer.specs.Printer.{endOf, isDone}
+use Rattle.printer.specs.Printer.{endFor, isDone}
 use Rattle.printer.proofs.Pieces.{a-line, packet-line, behind-packet, end-line, behind-end}
 use borrow.Author.Needs.{needs}
 use Rattle.printer.proofs.printing.put_packet.Statement.{statement}
@@ -49,7 +49,7 @@ same-length-2 : tie.Need-same-length-2
 same-length-2 c = search needs
 
 returns-2 : tie.Need-returns-2
-unfolding endOf isDone
+unfolding endFor isDone
 returns-2 c =
     let at-put-end = c .before .before in
     let at-if1 = at-put-end .before .before .before .before in

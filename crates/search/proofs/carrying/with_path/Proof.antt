@@ -7,8 +7,8 @@ use mathlib.Core.Path.{_≡_, sym, _∙_, ap}
 use native.Mathlib.Numerals.{add-one}
 use lib.Seq.{paste, paste-zero, paste-suc}
 use borrow.Author.Needs.{needs}
-use Rattle.search.proofs.spread.with_path.Statement.{statement}
-use Rattle.search.proofs.spread.with_path.Tie as tie
+use Rattle.search.proofs.carrying.with_path.Statement.{statement}
+use Rattle.search.proofs.carrying.with_path.Tie as tie
 
 abbrev Inv-loop : tie.InvT-loop
 Inv-loop f path next₀ a₀ next a = (next ≡ paste next₀ (f * 32) (path .links) a) × (a ≤ 32) × (length next ≡ 2048)

@@ -3,8 +3,8 @@ use native.Mathlib.Omega.{arith}
 use Prim.Native.Nat.{_-_, _≤_}
 use Rattle.search.proofs.Spreading.{Measuring, measuring-next}
 use borrow.Author.Needs.{needs}
-use Rattle.search.proofs.spread.lens_of.Statement.{statement}
-use Rattle.search.proofs.spread.lens_of.Tie as tie
+use Rattle.search.proofs.carrying.lens_of.Statement.{statement}
+use Rattle.search.proofs.carrying.lens_of.Tie as tie
 
 abbrev Inv-loop : tie.InvT-loop
 Inv-loop paths lens₀ f₀ lens f = Measuring paths lens f × (f ≤ 64)

@@ -4,8 +4,8 @@ use Rattle.passes.proofs.Start.{listing-sorted}
 use Rattle.search.proofs.Slack.{slacks-long, slack-order}
 use Rattle.search.proofs.Modelling.{modelled-ready, modelled-search}
 use borrow.Author.Needs.{needs}
-use Rattle.search.proofs.spread.run.Statement.{statement}
-use Rattle.search.proofs.spread.run.Tie as tie
+use Rattle.search.proofs.carrying.run.Statement.{statement}
+use Rattle.search.proofs.carrying.run.Tie as tie
 
 slacks-requires : tie.Need-slacks-requires
 slacks-requires c κs = c .pre .keyed

@@ -4,8 +4,8 @@ use native.Mathlib.Omega.{arith}
 use lib.ListN.{getD}
 use Rattle.search.proofs.Spreading.{reached-next}
 use borrow.Author.Needs.{needs}
-use Rattle.search.proofs.spread.longest_of.Statement.{statement}
-use Rattle.search.proofs.spread.longest_of.Tie as tie
+use Rattle.search.proofs.carrying.longest_of.Statement.{statement}
+use Rattle.search.proofs.carrying.longest_of.Tie as tie
 
 abbrev Inv-loop : tie.InvT-loop
 Inv-loop occupancy longest₀ f₀ longest f = ((g : ℕ) → g < f → getD occupancy g 0 ≤ longest) × (f ≤ 64)

@@ -3,8 +3,8 @@ use native.Mathlib.Omega.{arith}
 use Prim.Native.Nat.{_-_}
 use Rattle.search.proofs.Spreading.{Spreading, spreading-next}
 use borrow.Author.Needs.{needs}
-use Rattle.search.proofs.spread.links_of.Statement.{statement}
-use Rattle.search.proofs.spread.links_of.Tie as tie
+use Rattle.search.proofs.carrying.links_of.Statement.{statement}
+use Rattle.search.proofs.carrying.links_of.Tie as tie
 
 abbrev Inv-loop : tie.InvT-loop
 Inv-loop paths links₀ f₀ links f = Spreading paths links f
