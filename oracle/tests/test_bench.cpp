@@ -61,6 +61,7 @@ void test_bench() {
   claim_model("c_ring_literal", 13, "4080 1024 2945 93338736 32");
   if (!setting().full) return;
   claim_model("d_ring_max", 13, "16776960 1024 14657 753443347056 32");
+  claim_model("d_ring_two_paths", 13, "16776960 1024 14657 753443347056 32");
   test_literal();
 }
 
