@@ -3,9 +3,7 @@ use mathlib.Core.Path.{_≡_}
 use mathlib.Core.List.{List}
 use Prim.Native.Nat.{ℕ, _-_, _≤_, _<_}
 use native.Mathlib.Omega.{arith}
-use native.Mathlib.Nat.{lt-of-not-le}
-use native.Mathlib.Decide.{decLe}
-use Rattle.order.proofs.Halving.{Halving, halving-end}
+use Rattle.order.proofs.Halving.{halving-end}
 use Rattle.kept.specs.Kept.{startOf, spotOf}
 use Rattle.gaps.specs.Sweeps.{Back}
 

@@ -16,7 +16,6 @@ use Rattle.gaps.specs.Gaps.{flowOf, slotsTo, spotIn, gapIn, Sweep}
 use Rattle.gaps.specs.Sweeps.{timePast, EndAhead, SweptTo}
 use Rattle.gaps.specs.declared.gap.Placed.{Placed}
 use Rattle.gaps.specs.declared.gap.Placed.the-variants.{At, Nowhere}
-use Rattle.gaps.specs.declared.gap.Gap.{Gap}
 use Rattle.gaps.specs.declared.gap.Swept.{Swept}
 use Rattle.gaps.proofs.Sweeping.{Sweeping, sweep-jump, sweep-apart, sweep-clear, sweep-early, sweep-none}
 

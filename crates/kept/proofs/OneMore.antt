@@ -12,7 +12,7 @@ use lib.ListN.{length, getD, set, take, length-set}
 use lib.Seq.{getD-set-same, getD-set-other, take-set-lt, length-take-le}
 use Rattle.hyper.specs.Hyper.{most}
 use Rattle.packet.specs.Packet.{Packet}
-use Rattle.packet.specs.Table.{none, placed}
+use Rattle.packet.specs.Table.{placed}
 use Rattle.packet.proofs.Placed.{placed-new, placed-other}
 use Rattle.order.specs.Lists.{shifted}
 use Rattle.order.proofs.Shifting.{shifted-before, shifted-at, shifted-moved, shifted-length}

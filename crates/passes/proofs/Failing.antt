@@ -1,5 +1,5 @@
 -- One step of a pass where no time will do: the packet moves to the front, or is skipped.
-use mathlib.Core.Path.{_≡_, refl, sym, _∙_, ap, ap₂}
+use mathlib.Core.Path.{_≡_, sym, _∙_, ap, ap₂}
 use mathlib.Core.Bool.{Bool, true, false}
 use mathlib.Core.List.{List}
 use Prim.Native.Nat.{ℕ, _+_, _≤_, _<_}
@@ -22,7 +22,7 @@ use Rattle.placing.specs.Traffic.{packetsHeld}
 use Rattle.placing.specs.declared.traffic.Traffic.{Traffic}
 use Rattle.settling.specs.Settling.{raised, turnedAway, TurnsAway}
 use Rattle.settling.specs.declared.taking.State.{State}
-use Rattle.passes.specs.Pass.{Pass, passFrom}
+use Rattle.passes.specs.Pass.{passFrom}
 use Rattle.passes.specs.Stand.{listOf, failsOf, Stand, standOf, outcome, Ready, Carried, Going}
 use Rattle.passes.proofs.Parts.{list-moved, list-without, taken-moved, rest-moved, list-occurs, each-moved}
 use Rattle.passes.proofs.Stepping.{nextOf, few, long, next-in, next-below, list-once, behind, rises, here, latest-small}

@@ -1,13 +1,12 @@
 -- A whole pass: it starts with nothing placed, each step leaves what the pass leaves as it was, and its two ends.
 use mathlib.Core.Path.{_≡_, refl, sym, _∙_, ap, ap₂}
-use mathlib.Core.Bool.{Bool, true, false, false≢true}
+use mathlib.Core.Bool.{true, false, false≢true}
 use mathlib.Core.List.{List, _∷_}
 use Prim.Native.Nat.{ℕ, zero, suc, _+_, _≤_, _<_}
 use native.Mathlib.Nat.{le-of-suc-le-suc}
 use native.Mathlib.Omega.{arith}
 use lib.ListN.{length, getD, set, take, replicate, length-replicate}
 use lib.Seq.{slice, slice-empty}
-use Rattle.packet.specs.Packet.{Packet}
 use Rattle.packet.specs.Table.{none, placed}
 use Rattle.packet.proofs.Placed.{nothing-placed}
 use Rattle.order.specs.Lists.{shifted}
@@ -25,8 +24,8 @@ use Rattle.settling.specs.Settling.{turnedAway}
 use Rattle.settling.specs.declared.taking.State.{State}
 use Rattle.settling.specs.declared.taking.Turned.{Turned}
 use Rattle.passes.specs.Pass.{passFrom, passOver}
-use Rattle.passes.specs.Stand.{listOf, failsOf, Stand, standOf, outcome, passedOf, Ready, Carried, Going, Runs, Ran}
-use Rattle.passes.proofs.Stepping.{nextOf, next-in, placing, tries-few, placed-outcome, placed-going}
+use Rattle.passes.specs.Stand.{listOf, failsOf, Stand, standOf, outcome, passedOf, Ready, Going, Runs, Ran}
+use Rattle.passes.proofs.Stepping.{nextOf, next-in, placing, placed-outcome, placed-going}
 use Rattle.passes.proofs.Failing.{all-few, broken-outcome, broken-carries, skipped-outcome, skipped-going}
 
 -- the front of a list of one value

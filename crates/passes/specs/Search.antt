@@ -3,7 +3,6 @@ use mathlib.Core.Path.{_≡_}
 use mathlib.Core.List.{List}
 use Prim.Native.Nat.{ℕ, _≤_, _<_}
 use lib.ListN.{length, getD, take}
-use Rattle.packet.specs.Packet.{Packet}
 use Rattle.order.specs.Order.{occurs}
 use Rattle.placing.specs.Traffic.{packetsHeld}
 use Rattle.placing.specs.declared.traffic.Traffic.{Traffic}

@@ -22,7 +22,7 @@ use Rattle.time.proofs.Windows.{overlaps-longer}
 use Rattle.hyper.specs.Hyper.{most}
 use Rattle.packet.specs.Table.{none}
 use Rattle.kept.specs.Load.{Load, flowAt, spanOf, pathIn, pathFor, Paths}
-use Rattle.kept.specs.Kept.{startOf, Kept}
+use Rattle.kept.specs.Kept.{startOf}
 use Rattle.kept.proofs.Paths.{path-length, path-at, path-has}
 use Rattle.gaps.specs.Gaps.{flowOf, hits, Resumes}
 use Rattle.gaps.specs.Sweeps.{timePast}
