@@ -9,9 +9,9 @@ use lib.ListN.{getD}
 use Rattle.routes.specs.Share.{has, shares}
 use Rattle.routes.proofs.Common.{shares-at, shares-swap}
 use Rattle.hyper.specs.Hyper.{most}
-use Rattle.kept.specs.Load.{Load, flowAt, spanOf, pathFor}
+use Rattle.load.specs.Load.{Load, flowAt, spanOf, pathFor}
 use Rattle.kept.specs.Kept.{startOf, spotOf}
-use Rattle.kept.proofs.Paths.{path-has, path-apart}
+use Rattle.load.proofs.Paths.{path-has, path-apart}
 use Rattle.gaps.specs.Gaps.{flowOf, slotsTo, spotIn, gapIn, Sweep}
 use Rattle.gaps.specs.Sweeps.{timePast, EndAhead, SweptTo}
 use Rattle.gaps.specs.declared.gap.Placed.{Placed}

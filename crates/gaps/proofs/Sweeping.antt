@@ -16,7 +16,7 @@ use Rattle.basics.proofs.First.{first-is, first-none, some-at, some-none}
 use Rattle.routes.specs.Share.{shares}
 use Rattle.time.specs.Window.{overlaps}
 use Rattle.time.proofs.Windows.{overlaps-at, before-apart, overlaps-swap}
-use Rattle.kept.specs.Load.{Load, spanOf, pathFor}
+use Rattle.load.specs.Load.{Load, spanOf, pathFor}
 use Rattle.kept.specs.Kept.{startOf, Kept}
 use Rattle.gaps.specs.Gaps.{flowOf, hits, slotsTo, firstGap, gapAt, placedIn, Sweep}
 use Rattle.gaps.specs.Sweeps.{timePast, EndAhead}

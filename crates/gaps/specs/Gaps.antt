@@ -10,7 +10,7 @@ use Rattle.basics.specs.First.{first, some}
 use Rattle.routes.specs.Share.{shares}
 use Rattle.time.specs.Window.{overlaps}
 use Rattle.hyper.specs.Hyper.{most}
-use Rattle.kept.specs.Load.{Load, flowAt, spanOf, pathFor, Loaded}
+use Rattle.load.specs.Load.{Load, flowAt, spanOf, pathFor, Loaded}
 use Rattle.kept.specs.Kept.{startOf, spotOf, Kept}
 use Rattle.marks.specs.Marks.{Marked}
 use Rattle.gaps.specs.declared.gap.Placed.{Placed}

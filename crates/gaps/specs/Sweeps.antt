@@ -2,7 +2,7 @@
 use mathlib.Core.Path.{_≡_}
 use mathlib.Core.List.{List}
 use Prim.Native.Nat.{ℕ, _+_, _-_, _*_, _/_, _≤_, _<_}
-use Rattle.kept.specs.Load.{Load}
+use Rattle.load.specs.Load.{Load}
 use Rattle.kept.specs.Kept.{startOf, Kept}
 use Rattle.gaps.specs.Gaps.{placedIn}
 use Rattle.gaps.specs.declared.gap.Placed.the-variants.{At}

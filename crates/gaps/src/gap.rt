@@ -3,7 +3,7 @@ use marks::has_mark;
 use mesh::ALL_LINKS;
 ghost use mathlib.Core.Path.{_≡_};
 ghost use Prim.Native.Nat.{_+_, _-_, _/_, _≤_, _<_};
-ghost use Rattle.kept.specs.Load.{loadOf};
+ghost use Rattle.load.specs.Load.{loadOf};
 ghost use Rattle.kept.specs.Kept.{spotOf};
 ghost use Rattle.gaps.specs.Gaps.{gapIn, slotsTo, Sweep};
 ghost use Rattle.gaps.specs.Sweeps.{timePast, EndAhead, SweptTo, Back};

@@ -1,4 +1,3 @@
--- The laws of paths and of placed packets in order of start, and that the answer is determined.
-pub mod Paths
+-- The laws of placed packets in order of start, and that the answer is determined.
 pub mod OneMore
 pub mod Determined

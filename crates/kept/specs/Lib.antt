@@ -1,3 +1,2 @@
--- What packets hold as the code has it, and the placed packets in order of their start.
-pub mod Load
+-- The placed packets in order of their start.
 pub mod Kept

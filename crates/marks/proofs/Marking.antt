@@ -14,8 +14,8 @@ use Rattle.basics.proofs.Lists.{fill-at}
 use Rattle.routes.specs.Share.{has}
 use Rattle.routes.proofs.Common.{has-place}
 use Rattle.mesh.specs.Link.{allLinks}
-use Rattle.kept.specs.Load.{pathIn, Paths}
-use Rattle.kept.proofs.Paths.{path-length, path-at, path-has}
+use Rattle.load.specs.Load.{pathIn, Paths}
+use Rattle.load.proofs.Paths.{path-length, path-at, path-has}
 use Rattle.marks.specs.Marks.{stamped, Honest, Marked}
 
 -- at first no mark is made

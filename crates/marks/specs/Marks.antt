@@ -7,7 +7,7 @@ use lib.Dec.{eqb}
 use lib.ListN.{length, getD, set}
 use Rattle.routes.specs.Share.{has}
 use Rattle.mesh.specs.Link.{allLinks}
-use Rattle.kept.specs.Load.{pathIn}
+use Rattle.load.specs.Load.{pathIn}
 
 -- the marks of the first n links of flow g made
 unfoldable pub stamped : List ℕ → ℕ → ℕ → List ℕ → List ℕ

@@ -5,7 +5,7 @@ ghost use Prim.Native.Nat.{_+_, _<_};
 ghost use lib.Dec.{eqb};
 ghost use lib.ListN.{length, getD};
 ghost use Rattle.mesh.specs.Link.{allLinks};
-ghost use Rattle.kept.specs.Load.{Paths};
+ghost use Rattle.load.specs.Load.{Paths};
 ghost use Rattle.marks.specs.Marks.{stamped};
 
 // Marks the links of a flow's path.

@@ -11,7 +11,7 @@ use Rattle.packet.specs.Table.{none, placed}
 use Rattle.packet.proofs.Placed.{nothing-placed}
 use Rattle.order.specs.Lists.{shifted}
 use Rattle.mesh.specs.Link.{allLinks}
-use Rattle.kept.specs.Load.{flowAt}
+use Rattle.load.specs.Load.{flowAt}
 use Rattle.marks.specs.Marks.{stamped, Honest}
 use Rattle.marks.proofs.Marking.{honest-start, honest-stamped}
 use Rattle.gaps.specs.declared.gap.Gap.{Gap}

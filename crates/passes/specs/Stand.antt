@@ -9,7 +9,7 @@ use Rattle.hyper.specs.Hyper.{most}
 use Rattle.packet.specs.Packet.{Packet}
 use Rattle.packet.specs.Table.{packetAt, timeAt, placed}
 use Rattle.order.specs.Order.{occurs}
-use Rattle.kept.specs.Load.{flowAt, spanOf, Loaded}
+use Rattle.load.specs.Load.{flowAt, spanOf, Loaded}
 use Rattle.kept.specs.Kept.{Kept, Roster}
 use Rattle.placing.specs.Placing.{free}
 use Rattle.placing.specs.Traffic.{loadIn, packetsHeld}

@@ -5,7 +5,7 @@ use mathlib.Core.List.{List}
 use Prim.Native.Nat.{ℕ, _<_}
 use native.Mathlib.Omega.{arith}
 use lib.ListN.{getD}
-use Rattle.kept.specs.Load.{Load, flowAt}
+use Rattle.load.specs.Load.{Load, flowAt}
 use Rattle.kept.specs.Kept.{startOf}
 use Rattle.marks.specs.Marks.{stamped, Marked}
 use Rattle.marks.proofs.Marking.{marked-stamped}

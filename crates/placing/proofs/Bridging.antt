@@ -19,7 +19,7 @@ use Rattle.time.specs.Units.{latestOf}
 use Rattle.time.specs.Window.{overlaps}
 use Rattle.packet.specs.Packet.{Packet, absent, collide}
 use Rattle.packet.specs.Table.{packetAt, timeAt, placed}
-use Rattle.kept.specs.Load.{Load, flowAt, spanOf}
+use Rattle.load.specs.Load.{Load, flowAt, spanOf}
 use Rattle.kept.specs.Kept.{startOf, spotOf, Roster}
 use Rattle.gaps.specs.Gaps.{flowOf, hits, slotsTo, firstGap, gapAt, placedIn, spotIn, gapIn}
 use Rattle.gaps.specs.declared.gap.Gap.{Gap}

@@ -6,7 +6,7 @@ use lib.ListN.{length, getD}
 use Rattle.hyper.specs.Hyper.{most}
 use Rattle.packet.specs.Packet.{Packet}
 use Rattle.packet.specs.Table.{packetAt, none}
-use Rattle.kept.specs.Load.{Load, flowAt, spanOf, pathFor, Loaded}
+use Rattle.load.specs.Load.{Load, flowAt, spanOf, pathFor, Loaded}
 use Rattle.kept.specs.Kept.{startOf, Kept}
 use Rattle.marks.specs.Marks.{Honest}
 use Rattle.gaps.specs.Gaps.{gapIn}

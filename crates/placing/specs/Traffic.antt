@@ -4,7 +4,7 @@ use Prim.Native.Nat.{ℕ, _+_}
 use lib.ListN.{getD}
 use Rattle.basics.specs.Lists.{tabulate}
 use Rattle.packet.specs.Packet.{Packet}
-use Rattle.kept.specs.Load.{Load, loadOf, flowAt, spanOf, pathFor}
+use Rattle.load.specs.Load.{Load, loadOf, flowAt, spanOf, pathFor}
 use Rattle.placing.specs.declared.traffic.Traffic.{Traffic}
 
 -- what the packets hold

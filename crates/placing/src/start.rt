@@ -7,7 +7,7 @@ use mesh::ALL_LINKS;
 use twins::resume;
 ghost use mathlib.Core.Path.{_≡_};
 ghost use lib.ListN.{getD};
-ghost use Rattle.kept.specs.Load.{loadOf};
+ghost use Rattle.load.specs.Load.{loadOf};
 ghost use Rattle.kept.specs.Kept.{Kept};
 ghost use Rattle.marks.specs.Marks.{stamped};
 ghost use Rattle.placing.specs.Held.{Over, Placeable, placeIn};

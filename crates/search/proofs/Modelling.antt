@@ -28,7 +28,7 @@ use Rattle.model.proofs.Numbering.{packets-length}
 use Rattle.model.proofs.InTime.{InTime, turns-low, fair-timed, packet-in-time, packets-in-time}
 use Rattle.arrays.proofs.Entries.{occupancy-entry, path-entry, flow-entry}
 use Rattle.arrays.proofs.Reading.{read-count, read-at, model-count, packet-in, path-in}
-use Rattle.kept.specs.Load.{flowAt, spanOf, pathIn}
+use Rattle.load.specs.Load.{flowAt, spanOf, pathIn}
 use Rattle.placing.specs.Traffic.{packetHeld, packetsHeld}
 use Rattle.placing.specs.declared.traffic.Traffic.{Traffic}
 use Rattle.placing.proofs.Bridging.{packets-count, packets-at}

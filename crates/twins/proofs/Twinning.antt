@@ -21,9 +21,9 @@ use Rattle.time.specs.Window.{overlaps}
 use Rattle.time.proofs.Windows.{overlaps-longer}
 use Rattle.hyper.specs.Hyper.{most}
 use Rattle.packet.specs.Table.{none}
-use Rattle.kept.specs.Load.{Load, flowAt, spanOf, pathIn, pathFor, Paths}
+use Rattle.load.specs.Load.{Load, flowAt, spanOf, pathIn, pathFor, Paths}
 use Rattle.kept.specs.Kept.{startOf}
-use Rattle.kept.proofs.Paths.{path-length, path-at, path-has}
+use Rattle.load.proofs.Paths.{path-length, path-at, path-has}
 use Rattle.gaps.specs.Gaps.{flowOf, hits, Resumes}
 use Rattle.gaps.specs.Sweeps.{timePast}
 use Rattle.gaps.proofs.Sweeping.{Jump, jump, meets-hits}

@@ -9,7 +9,7 @@ use Rattle.basics.specs.Choose.{both, choose}
 use Rattle.basics.specs.First.{some, every}
 use Rattle.hyper.specs.Hyper.{most}
 use Rattle.packet.specs.Table.{none}
-use Rattle.kept.specs.Load.{Load, flowAt, spanOf, Loaded}
+use Rattle.load.specs.Load.{Load, flowAt, spanOf, Loaded}
 use Rattle.gaps.specs.Gaps.{hits}
 use Rattle.gaps.specs.Sweeps.{timePast}
 

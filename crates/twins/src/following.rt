@@ -3,7 +3,7 @@ use gaps::time_past;
 use packet::NO_TIME;
 ghost use mathlib.Core.Path.{_≡_};
 ghost use Prim.Native.Nat.{_<_};
-ghost use Rattle.kept.specs.Load.{loadOf, Paths};
+ghost use Rattle.load.specs.Load.{loadOf, Paths};
 ghost use Rattle.twins.specs.Twins.{samePath, isTwin, resumeAt, Pair, Resume};
 
 // Whether two flows have the same path.

@@ -3,7 +3,7 @@ use Prim.Native.Nat.{_-_}
 use mathlib.Core.Path.{refl, sym, _∙_, subst}
 use native.Mathlib.Omega.{arith}
 use borrow.Author.Count.{below-none, below-more}
-use Rattle.kept.specs.Load.{loadOf, flowAt, spanOf}
+use Rattle.load.specs.Load.{loadOf, flowAt, spanOf}
 use Rattle.kept.specs.Kept.{startOf}
 use Rattle.gaps.specs.Gaps.{flowOf}
 use Rattle.gaps.proofs.Sweeping.{Sweeping, past-after, sweep-start, sweep-over}

@@ -1,6 +1,6 @@
 -- `place` resumes behind a twin, marks the links of its path and sweeps from the first packet that may not be over.
 use native.Mathlib.Omega.{arith}
-use Rattle.kept.specs.Load.{flowAt, spanOf}
+use Rattle.load.specs.Load.{flowAt, spanOf}
 use Rattle.placing.specs.Held.{latestAt, placeIn}
 use Rattle.placing.proofs.Asking.{own-flow, resume-asks, sweep-asks}
 use borrow.Author.Needs.{needs}

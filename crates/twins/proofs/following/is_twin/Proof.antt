@@ -2,7 +2,7 @@
 use mathlib.Core.Path.{refl, sym}
 use native.Mathlib.Omega.{arith}
 use borrow.Author.Tests.{ne-eqb, eq-eqb, le-leb, lt-leb}
-use Rattle.kept.specs.Load.{flowAt, spanOf}
+use Rattle.load.specs.Load.{flowAt, spanOf}
 use Rattle.twins.specs.Twins.{isTwin}
 use borrow.Author.Needs.{needs}
 use Rattle.twins.proofs.following.is_twin.Statement.{statement}

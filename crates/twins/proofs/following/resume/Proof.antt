@@ -3,7 +3,7 @@ use mathlib.Core.Path.{refl, sym, _∙_}
 use Prim.Native.Nat.{_-_, _≤_, _<_}
 use native.Mathlib.Omega.{arith}
 use borrow.Author.Tests.{lt-ltb, le-ltb, le-leb, lt-leb}
-use Rattle.kept.specs.Load.{loadOf, flowAt, spanOf}
+use Rattle.load.specs.Load.{loadOf, flowAt, spanOf}
 use Rattle.twins.specs.Twins.{resumeAt}
 use Rattle.twins.proofs.Twinning.{twin-timed}
 use borrow.Author.Needs.{needs}

@@ -9,7 +9,7 @@ use lib.Seq.{length-take-le, getD-take, getD-drop}
 use Rattle.basics.proofs.First.{some-none}
 use Rattle.routes.specs.Share.{has, shares}
 use Rattle.routes.proofs.Common.{has-at}
-use Rattle.kept.specs.Load.{pathIn, Paths}
+use Rattle.load.specs.Load.{pathIn, Paths}
 
 module _ {lens links : List ℕ} (paths : Paths lens links) (g : ℕ) (flow : g < 64) where
   -- it has as many links as it says

@@ -1,0 +1,2 @@
+-- The laws of paths in one array of links.
+pub mod Paths

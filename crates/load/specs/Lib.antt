@@ -1,0 +1,2 @@
+-- What packets hold, as the search has it in arrays.
+pub mod Load
