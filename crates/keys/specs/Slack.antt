@@ -26,4 +26,4 @@ pub record Keyed (model : Model) : Type 0 where
 
 -- the slacks of all flows, 0 past them
 unfoldable pub slacksOf : Model → List ℕ
-slacksOf model = padded 1024 0 (tabulate (slackIn (model .flows .due) (model .flows .occupancy)) 0 (model .flows .count))
+slacksOf model = padded 64 0 (tabulate (slackIn (model .flows .due) (model .flows .occupancy)) 0 (model .flows .count))

@@ -23,11 +23,11 @@ module _ {model : Model} {f g : ℕ} (m : Modelled model f g) where
   slacks-count : length (tabulate (slackIn (model .flows .due) (model .flows .occupancy)) 0 (model .flows .count)) ≡ model .flows .count
   slacks-count = tabulate-length (slackIn (model .flows .due) (model .flows .occupancy)) 0 (model .flows .count)
 
-  -- in 1,024 places
-  pub slacks-long : length (slacksOf model) ≡ 1024
+  -- in 64 places
+  pub slacks-long : length (slacksOf model) ≡ 64
   unfolding slacksOf
   slacks-long =
-      padded-length 1024 0 (tabulate (slackIn (model .flows .due) (model .flows .occupancy)) 0 (model .flows .count))
+      padded-length 64 0 (tabulate (slackIn (model .flows .due) (model .flows .occupancy)) 0 (model .flows .count))
       (omega (arith, slacks-count, m .keyed .few))
 
   -- the slack of a packet is that of its flow
@@ -37,7 +37,7 @@ module _ {model : Model} {f g : ℕ} (m : Modelled model f g) where
       let slack : ℕ → ℕ = slackIn (model .flows .due) (model .flows .occupancy) in
       let own : ℕ = getD (model .packets .flow) p 0 in
       let below : getD (model .packets .flow) p 0 < model .flows .count = m .grouped .flow-in p h in
-      padded-at 1024 0 (tabulate slack 0 (model .flows .count)) own 0 (omega (arith, slacks-count))
+      padded-at 64 0 (tabulate slack 0 (model .flows .count)) own 0 (omega (arith, slacks-count))
       ∙ tabulate-at slack 0 (model .flows .count) own 0 below
       ∙ ap slack (zero-add own)
       ∙ omega (

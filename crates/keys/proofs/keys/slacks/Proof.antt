@@ -16,8 +16,8 @@ use Rattle.keys.proofs.keys.slacks.Tie as tie
 -- the array holds the slacks of the flows before g
 record Filled (due occupancy key : List ℕ) (n g : ℕ) : Type 0 where
   pub within : g ≤ n
-  pub front : key ≡ padded 1024 0 (tabulate (slackIn due occupancy) 0 g)
-  pub size : length key ≡ 1024
+  pub front : key ≡ padded 64 0 (tabulate (slackIn due occupancy) 0 g)
+  pub size : length key ≡ 64
 
 abbrev Inv-loop : tie.InvT-loop
 Inv-loop n due occupancy key₀ g₀ key g = Filled due occupancy key n g
@@ -65,10 +65,10 @@ loop-again : tie.Need-loop-again Inv-loop μ-loop
 unfolding slackIn
 loop-again c =
     let flows = c .before .before .before .before .args .model .flows in
-    let few : c .before .loop .g < 1024 = omega (arith, c .before .before .before .before .pre .few, c .loop-test .taken) in
+    let few : c .before .loop .g < 64 = omega (arith, c .before .before .before .before .pre .few, c .loop-test .taken) in
     record {
       within = omega (arith, c .loop-test .taken);
-      front = padded-next 1024 0 (slackIn (flows .due) (flows .occupancy)) (c .before .loop .g) few (c .before .loop .inv .front) refl;
+      front = padded-next 64 0 (slackIn (flows .due) (flows .occupancy)) (c .before .loop .g) few (c .before .loop .inv .front) refl;
       size = simp length-set (c .before .loop .inv .size);
     }
 
