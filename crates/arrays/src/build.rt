@@ -12,7 +12,7 @@ use model::{Mesh, PER_FLOW, hyper_in, number_of, occupancy_of};
 use routes::{Path, route};
 
 // The flows: period, deadline, occupancy and path of each of the first count; what follows them is 0.
-#[derive(Drop)]
+#[derive(Clone, Copy)]
 pub struct Flows {
     pub count: usize,
     pub period: [u32; 64],
@@ -22,7 +22,7 @@ pub struct Flows {
 }
 
 // The packets of one hyper-period: flow and release of each of the first count; what follows them is 0.
-#[derive(Drop)]
+#[derive(Clone, Copy)]
 pub struct Packets {
     pub count: usize,
     pub flow: [u16; 1024],
@@ -30,7 +30,7 @@ pub struct Packets {
 }
 
 // A model that is not refused: its hyper-period, its flows and its packets.
-#[derive(Drop)]
+#[derive(Clone, Copy)]
 pub struct Model {
     pub hyper: u32,
     pub flows: Flows,

@@ -1,4 +1,6 @@
 // The program: reads a text from standard input, calls the planner, and writes every piece of its answer.
+#![tactic(auto)]
+
 use libc::{STDIN_FILENO, STDOUT_FILENO};
 use planner::{Plan, plan_of};
 use printer::{Cursor, LINE, MOST_LINES, put_piece};

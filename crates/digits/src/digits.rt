@@ -3,7 +3,7 @@ ghost use Rattle.std.specs.Prelude.{◌≡◌};
 ghost use Rattle.digits.specs.Numbers.{is_formed, number_of};
 
 // The number of a field, or that it is none.
-#[derive(Drop)]
+#[derive(Clone, Copy)]
 pub enum Number {
     Good(u64),
     Bad,

@@ -1,4 +1,6 @@
 // Numbers in digits.
+#![tactic(auto)]
+
 mod digits;
 
 pub use digits::{Number, read_number};

@@ -9,21 +9,21 @@ use marks::has_mark;
 use mesh::ALL_LINKS;
 
 // Where a packet goes: the time taken, or nowhere; and how many times were tried.
-#[derive(Drop)]
+#[derive(Clone, Copy)]
 pub enum Placed {
     At { time: u32, tries: u32 },
     Nowhere { tries: u32 },
 }
 
 // Where a packet goes, and before which of the placed packets, in order of start, it is put in.
-#[derive(Drop)]
+#[derive(Clone, Copy)]
 pub struct Gap {
     pub placed: Placed,
     pub spot: usize,
 }
 
 // Where a sweep ended: where the packet goes, and the placed packet that would have come next.
-#[derive(Drop)]
+#[derive(Clone, Copy)]
 pub struct Swept {
     pub placed: Placed,
     pub next: usize,

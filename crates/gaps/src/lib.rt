@@ -1,4 +1,6 @@
 // The first gap for a packet among those placed.
+#![tactic(auto)]
+
 mod gap;
 
 pub use gap::{Gap, Placed, gap_for, time_past};

@@ -7,7 +7,7 @@ ghost use Rattle.hyperperiod.specs.Hyper.{hyper_within, Periods};
 pub const MOST: u32 = 16_777_216;
 
 // The hyper-period, or that it is above the limit.
-#[derive(Drop)]
+#[derive(Clone, Copy)]
 pub enum Hyper {
     Is(u32),
     Above,

@@ -1,4 +1,6 @@
 // The keys of the list.
+#![tactic(auto)]
+
 mod keys;
 
 pub use keys::slacks;

@@ -60,7 +60,7 @@ pub fn bad_times(numbers: &[u32], f: usize) -> bool
     ensures { result ≡ bad_times numbers.now f }
 {
     let period = number_of(numbers, f, 2);
-    if out_of_range(1, hyper::MOST, period) {
+    if out_of_range(1, hyperperiod::MOST, period) {
         return true;
     }
     if out_of_range(1, 65_536, number_of(numbers, f, 3)) {

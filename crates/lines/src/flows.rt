@@ -15,7 +15,7 @@ pub const MOST_KEPT: usize = 65;
 pub const KEPT_NUMBERS: usize = PER_FLOW * MOST_KEPT;
 
 // The flow lines: the first bad line, or 0 with their numbers and their count.
-#[derive(Drop)]
+#[derive(Clone, Copy)]
 pub struct Lines {
     pub bad: u32,
     pub numbers: [u32; KEPT_NUMBERS],

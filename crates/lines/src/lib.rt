@@ -1,4 +1,6 @@
 // The lines of a text: a line taken from its place, and the flow lines.
+#![tactic(auto)]
+
 mod flows;
 mod taking;
 

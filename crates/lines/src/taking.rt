@@ -7,7 +7,7 @@ use records::{MOST_NUMBERS, find, read_record};
 use words::FEED;
 
 // A line of the text, with its numbers and the place behind it, or no good line.
-#[derive(Drop)]
+#[derive(Clone, Copy)]
 pub struct Line {
     pub good: bool,
     pub numbers: [u32; MOST_NUMBERS],

@@ -1,4 +1,6 @@
 // Marks of the links of a path.
+#![tactic(auto)]
+
 mod marks;
 
 pub use marks::{has_mark, stamp};

@@ -1,4 +1,6 @@
 // Nodes and the six kinds of link.
+#![tactic(auto)]
+
 mod links;
 mod nodes;
 

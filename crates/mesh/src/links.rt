@@ -5,7 +5,7 @@ ghost use Rattle.mesh.specs.Link.{link_of, step_of, end_of, Movable, Inner};
 use crate::nodes::Place;
 
 // The step of a kind: how many columns and how many rows it goes on.
-#[derive(Drop)]
+#[derive(Clone, Copy)]
 pub struct Step {
     pub column: isize,
     pub row: isize,

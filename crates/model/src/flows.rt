@@ -9,7 +9,7 @@ use time::{Bytes, Cycles, flits_of, occupancy};
 pub const PER_FLOW: usize = 5;
 
 // Columns and rows, r, and the flit width in bytes.
-#[derive(Drop)]
+#[derive(Clone, Copy)]
 pub struct Mesh {
     pub columns: u32,
     pub rows: u32,

@@ -1,4 +1,6 @@
 // The model: mesh and flows as lent numbers, its hyper-period and number of packets, and the answer.
+#![tactic(auto)]
+
 mod answers;
 mod flows;
 mod sums;

@@ -1,4 +1,6 @@
 // The order of the list as it starts, by any key or by that of the flows, and a number put in.
+#![tactic(auto)]
+
 mod ranking;
 mod shift;
 mod spread;

@@ -1,4 +1,5 @@
 // Packets as the definitions see them: see specs/ and proofs/. The only code is what a table holds in place of a time.
+#![tactic(auto)]
 
 // What a table's place holds whose packet is not placed.
 pub const NO_TIME: u32 = 4_294_967_295;

@@ -8,7 +8,7 @@ use routes::share;
 use time::{Cycles, Window, overlap};
 
 // Two packets.
-#[derive(Drop)]
+#[derive(Clone, Copy)]
 pub struct Pair {
     pub a: usize,
     pub b: usize,

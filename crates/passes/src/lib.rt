@@ -1,4 +1,6 @@
 // A pass over the list, and the passes, until one runs to the end of its list.
+#![tactic(auto)]
+
 mod repeat;
 mod walk;
 

@@ -6,7 +6,7 @@ use placing::Traffic;
 use settling::State;
 
 // What the passes leave: the table, the passes begun, and the times tried.
-#[derive(Drop)]
+#[derive(Clone, Copy)]
 pub struct Outcome {
     pub times: [u32; 1024],
     pub passes: u32,

@@ -8,7 +8,7 @@ use placing::{Traffic, place};
 use settling::{State, no_times, settle, turn_away};
 
 // What a pass leaves: whether it ran to the end of its list, the state, the times tried, and the table.
-#[derive(Drop)]
+#[derive(Clone, Copy)]
 pub struct Passed {
     pub whole: bool,
     pub state: State,

@@ -1,4 +1,6 @@
 // Placing one packet among those placed.
+#![tactic(auto)]
+
 mod start;
 mod traffic;
 

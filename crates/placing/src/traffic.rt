@@ -3,7 +3,7 @@
 // The packets, with the flow and the release of each of the first count; the flows, with occupancy, D and path of each, 32 places for its
 // links beside how many they are, and how many packets before each of its own a twin may stand; and the longest occupancy. What follows
 // them is 0.
-#[derive(Drop)]
+#[derive(Clone, Copy)]
 pub struct Traffic {
     pub count: usize,
     pub flow: [u16; 1024],

@@ -1,4 +1,6 @@
 // From the bytes of a text to the whole answer.
+#![tactic(auto)]
+
 mod numbering;
 mod plan;
 

@@ -9,7 +9,7 @@ use model::{Answer, Mesh, Refusal};
 use refusals::refusal;
 
 // The answer, and for 0 and 13 the flow and k of each packet; what follows them is 0.
-#[derive(Drop)]
+#[derive(Clone, Copy)]
 pub struct Plan {
     pub answer: Answer,
     pub flow: [u16; 1024],

@@ -1,4 +1,6 @@
 // The printer.
+#![tactic(auto)]
+
 mod printing;
 
 pub use printing::{Cursor, LINE, MOST_LINES, Piece, put_piece};

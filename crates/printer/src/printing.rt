@@ -15,7 +15,7 @@ pub const LINE: usize = 96;
 pub const MOST_LINES: usize = 1024 + 2;
 
 // Where the printer stands: before the first line, before a packet's line (or the end line, behind the last packet), or behind all.
-#[derive(Drop)]
+#[derive(Clone, Copy)]
 pub enum Cursor {
     First,
     Packet(u32),
@@ -23,7 +23,7 @@ pub enum Cursor {
 }
 
 // What was printed: the length of the line in the buffer, the cursor behind it, and whether nothing is left there.
-#[derive(Drop)]
+#[derive(Clone, Copy)]
 pub struct Piece {
     pub len: usize,
     pub next: Cursor,

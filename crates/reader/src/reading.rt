@@ -14,7 +14,7 @@ pub const TEXT_BUFFER: usize = LIMIT + 1;
 
 // What a text says. A malformed one has its first bad line (0 where the text is too long) and nothing else; of a well-formed one the
 // numbers of the first 65 flows are kept, beside how many flow lines there are.
-#[derive(Drop)]
+#[derive(Clone, Copy)]
 pub struct Input {
     pub malformed: bool,
     pub line: u32,

@@ -14,7 +14,7 @@ pub const LARGEST: u64 = 4_294_967_295;
 pub const MOST_NUMBERS: usize = PER_FLOW;
 
 // A line that is the record of a word, with its numbers, or a bad one.
-#[derive(Drop)]
+#[derive(Clone, Copy)]
 pub struct Record {
     pub good: bool,
     pub numbers: [u32; MOST_NUMBERS],

@@ -1,4 +1,6 @@
 // A line taken apart, as the record of a word.
+#![tactic(auto)]
+
 mod fields;
 
 pub use fields::{LARGEST, MOST_NUMBERS, Record, find, read_record};

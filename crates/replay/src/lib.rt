@@ -1,1 +1,2 @@
 // Replay, cycle by cycle: definitions and theorems only, see specs/ and proofs/.
+#![tactic(auto)]

@@ -1,4 +1,6 @@
 // The route between two nodes, and whether two paths share a link.
+#![tactic(auto)]
+
 mod paths;
 mod sharing;
 

@@ -7,7 +7,7 @@ ghost use Rattle.routes.specs.Growing.{pushed, walked, Walkable};
 use mesh::{Place, end_of, far, link_of, node_at, place_of};
 
 // The links of a path: the first len of the array; what follows them is 0.
-#[derive(Drop)]
+#[derive(Clone, Copy)]
 pub struct Path {
     pub links: [u16; 32],
     pub len: usize,

@@ -1,4 +1,6 @@
 // The search's state, and one packet of a pass once its start was sought: it takes a time, or is turned away.
+#![tactic(auto)]
+
 mod taking;
 
 pub use taking::{State, Turned, no_times, settle, turn_away};

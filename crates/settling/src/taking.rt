@@ -9,7 +9,7 @@ use packet::NO_TIME;
 
 // The search's own state, carried over its passes: the list is the order from base on, and the skipped packets stand before it; and the
 // fail count of each packet.
-#[derive(Drop)]
+#[derive(Clone, Copy)]
 pub struct State {
     pub order: [u16; 1024],
     pub fails: [u8; 1024],
@@ -17,7 +17,7 @@ pub struct State {
 }
 
 // The state once a packet was turned away, and whether a new pass begins.
-#[derive(Drop)]
+#[derive(Clone, Copy)]
 pub struct Turned {
     pub state: State,
     pub again: bool,

@@ -1,4 +1,6 @@
 // Bytes, flits and cycles; windows.
+#![tactic(auto)]
+
 mod units;
 mod window;
 

@@ -5,7 +5,7 @@ ghost use Rattle.time.specs.Window.{overlaps};
 use crate::units::Cycles;
 
 // The cycles from start on, span of them.
-#[derive(Drop)]
+#[derive(Clone, Copy)]
 pub struct Window {
     pub start: Cycles,
     pub span: Cycles,

@@ -12,7 +12,7 @@ use reader::LIMIT;
 use search::search;
 
 // A mesh and the stream after it.
-#[derive(Drop)]
+#[derive(Clone, Copy)]
 struct Laid {
     mesh: Mesh,
     stream: Stream,
@@ -35,7 +35,7 @@ fn next_mesh(buffer: &mut [u8], stream: Stream) -> Laid {
 }
 
 // How many numbers of flows and how many places of the table a call lends, and the stream after them.
-#[derive(Drop)]
+#[derive(Clone, Copy)]
 struct Lent {
     flows: usize,
     places: usize,
@@ -70,7 +70,7 @@ fn check_call(buffer: &mut [u8], line: &mut [u8], stream: Stream) -> Stream {
 }
 
 // A mesh with the settings of a search, and the stream after them.
-#[derive(Drop)]
+#[derive(Clone, Copy)]
 struct Posed {
     mesh: Mesh,
     pruning: u32,

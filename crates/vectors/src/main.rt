@@ -1,4 +1,6 @@
 // Answers the calls on standard input, one after the other: checks, searches and texts, as the independent program answers them.
+#![tactic(auto)]
+
 mod answers;
 mod calls;
 mod stream;

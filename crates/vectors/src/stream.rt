@@ -6,7 +6,7 @@ use records::LARGEST;
 
 // Where the input is read: the next byte's place in the buffer, the end of the part that is filled, and whether
 // everything read so far had the form that was asked for.
-#[derive(Drop)]
+#[derive(Clone, Copy)]
 pub struct Stream {
     pub at: usize,
     pub end: usize,
@@ -14,28 +14,28 @@ pub struct Stream {
 }
 
 // A byte and the stream after it.
-#[derive(Drop)]
+#[derive(Clone, Copy)]
 pub struct Step {
     pub byte: u8,
     pub stream: Stream,
 }
 
 // A number and the stream after it.
-#[derive(Drop)]
+#[derive(Clone, Copy)]
 pub struct Number {
     pub value: u64,
     pub stream: Stream,
 }
 
 // A number of 32 bits and the stream after it.
-#[derive(Drop)]
+#[derive(Clone, Copy)]
 pub struct Small {
     pub value: u32,
     pub stream: Stream,
 }
 
 // The length of a list, whose numbers stand in a lent array, and the stream after it.
-#[derive(Drop)]
+#[derive(Clone, Copy)]
 pub struct List {
     pub len: usize,
     pub stream: Stream,
@@ -104,7 +104,7 @@ pub fn after(buffer: &mut [u8], stream: Stream, bytes: &[u8]) -> Stream {
 }
 
 // A value with one more digit, or a byte that is no digit, or no room in 64 bits.
-#[derive(Drop)]
+#[derive(Clone, Copy)]
 enum Grown {
     To(u64),
     Bad,

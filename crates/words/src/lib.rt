@@ -1,4 +1,6 @@
 // The record words, and words and numbers written into a line's buffer.
+#![tactic(auto)]
+
 mod words;
 mod writing;
 

@@ -1,0 +1,10 @@
+-- `no_flows` is its definition.
+use mathlib.Core.Path.{refl}
+use Rattle.basics.specs.Lists.{padded}
+use Rattle.routes.specs.Route.{path_of}
+use Rattle.arrays.specs.Arrays.{no_flows}
+use Rattle.arrays.proofs.build.no_flows.Goals as goal
+
+pub returns : goal.returns
+unfolding padded path_of no_flows
+returns c = refl

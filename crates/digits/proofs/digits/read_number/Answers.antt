@@ -1,0 +1,105 @@
+-- `digits::digits::read_number` meets its contract: the value so far with the digits from i on spells the field, and since digits more
+-- make no smaller value, a value past the most is no number.
+use mathlib.Core.Path.{◌≡◌, refl, sym, ◌∙◌, ap}
+use mathlib.Core.List.{List}
+use mathlib.Core.Bool.{true}
+use Prim.Native.Nat.{ℕ, ◌+◌, ◌-◌, ◌*◌, ◌/◌, ◌≤◌, ◌<◌}
+use native.Mathlib.Omega.{arith}
+use lib.ListN.{length, get_or, drop}
+use borrow.Author.Tests.{not-true, not-false}
+use Rattle.digits.specs.Numbers.{all_digits, is_formed, value_from, value_of, number_of}
+use Rattle.digits.specs.declared.digits.Number.TheVariants.{Good}
+use Rattle.digits.proofs.Spelling.{formed_digits, digit_low, digits_here, digits_behind, value_next, value_end, value_grows, not_formed, number_above, number_good}
+use borrow.Author.Rules.{rules}
+use Rattle.digits.proofs.digits.read_number.Goals as goal
+
+-- the field is formed; the value so far is no more than the most, and with the digits from i on it is the field's
+record Spelt (field : List ℕ) (digits most end value i : ℕ) : Type 0 where
+  pub formed : is_formed digits field ≡ true
+  pub within : i ≤ end
+  pub whole : end ≡ length field
+  pub small : value ≤ most
+  pub rest : all_digits (drop i field) ≡ true
+  pub spells : value_from value (drop i field) ≡ value_of field
+
+-- nothing is read yet
+begins : (field : List ℕ) (digits most end : ℕ) → is_formed digits field ≡ true → end ≡ length field → Spelt field digits most end 0 0
+unfolding value_of
+begins field digits most end e h = record {
+  formed = e;
+  within = omega arith;
+  whole = h;
+  small = omega arith;
+  rest = formed_digits digits field e;
+  spells = refl;
+}
+
+module _ (field : List ℕ) (digits most end value i : ℕ) (s : Spelt field digits most end value i) where
+  -- the next byte is a digit
+  low : i < end → 48 ≤ get_or field i 0
+  low h = digit_low _ (digits_here field i (omega arith) s.rest)
+
+  -- the field is no less than the value with the next digit
+  least : i < end → value * 10 + (get_or field i 0 - 48) ≤ value_of field
+  least h = omega (arith, value_grows (value * 10 + (get_or field i 0 - 48)) (drop (i + 1) field), sym (value_next field i (omega arith) value) ∙ s.spells)
+
+  -- a value past the tenth of the most
+  passed : i < end → most / 10 < value → most < value_of field
+  passed h k = omega (arith, least h)
+
+  -- a digit past what is left to the most
+  above : i < end → (digit : ℕ) → digit ≡ get_or field i 0 - 48 → value ≤ most / 10 → most - value * 10 < digit → most < value_of field
+  above h digit e k l = omega (arith, least h)
+
+  -- one digit more
+  onward : i < end → (digit : ℕ) → digit ≡ get_or field i 0 - 48 → value ≤ most / 10 → digit ≤ most - value * 10
+      → Spelt field digits most end (value * 10 + digit) (i + 1)
+  onward h digit e k l = record {
+    formed = s.formed;
+    within = omega arith;
+    whole = s.whole;
+    small = omega arith;
+    rest = digits_behind field i (omega arith) s.rest;
+    spells = ap (λ (d : ℕ). value_from (value * 10 + d) (drop (i + 1) field)) e ∙ sym (value_next field i (omega arith) value) ∙ s.spells;
+  }
+
+  -- no digit is left
+  finished : end ≤ i → Good value ≡ number_of digits most field
+  finished h = sym (number_good digits most value field s.formed (sym s.spells ∙ value_end field i value (omega arith)) s.small)
+
+pub returns-then-not-formed : goal.returns-then-not-formed
+returns-then-not-formed c = sym (not_formed _ _ _ (sym c.formed.ensures ∙ not-true _ c.if-not-formed.true))
+
+pub loop-i-init : goal.loop-i-init
+unfolding value_of
+loop-i-init c = begins _ _ _ _ (sym c.formed.ensures ∙ not-false _ c.if-not-formed.false) (search rules)
+
+pub returns-then-most-value : goal.returns-then-most-value
+returns-then-most-value c = sym (number_above _ _ _ (passed _ _ _ _ _ _ c.loop-i.invariant c.loop-i-test.true c.if-most-value.true))
+
+pub overflow_sub-digit : goal.overflow_sub-digit
+overflow_sub-digit c =
+    let at_loop_test = c.before.before.before in
+    let at_loop = at_loop_test.before in
+    rw c.wide-digit.ensures (low _ _ _ _ _ _ at_loop.loop.invariant at_loop_test.loop-test.true)
+
+pub returns-then-most-value-2 : goal.returns-then-most-value-2
+returns-then-most-value-2 c =
+    let at_wide = c.before in
+    let at_if2 = at_wide.before.before in
+    let at_loop_test = at_if2.before in
+    let at_loop = at_loop_test.before in
+    sym (number_above _ _ _ (above _ _ _ _ _ _ at_loop.loop.invariant at_loop_test.loop-test.true _
+    (ap (λ (b : ℕ). b - 48) at_wide.wide.ensures) at_if2.if2.false c.if-most-value-2.true))
+
+pub loop-i-preserved : goal.loop-i-preserved
+loop-i-preserved c =
+    let at_wide = c.before in
+    let at_if2 = at_wide.before.before in
+    let at_loop_test = at_if2.before in
+    let at_loop = at_loop_test.before in
+    onward _ _ _ _ _ _ at_loop.loop.invariant at_loop_test.loop-test.true _
+    (ap (λ (b : ℕ). b - 48) at_wide.wide.ensures) at_if2.if2.false c.if-most-value-2.false
+
+pub returns : goal.returns
+returns c = finished _ _ _ _ _ _ c.loop-i.invariant c.loop-i-test.false

@@ -1,0 +1,8 @@
+-- `step_of` reads the table that the definition lists.
+use mathlib.Core.Path.{refl}
+use Rattle.mesh.specs.Link.{steps, step_of}
+use Rattle.mesh.proofs.links.step_of.Goals as goal
+
+pub returns : goal.returns
+unfolding steps step_of
+returns c = refl

@@ -1,0 +1,26 @@
+-- `hyper_in` hands the front of the array of periods on, which is the list of them.
+use mathlib.Core.Path.{◌≡◌, sym, ◌∙◌, ap}
+use lib.ListN.{length, take}
+use Rattle.basics.proofs.Lists.{tabulate_length}
+use Rattle.hyperperiod.specs.Hyper.{hyper_within}
+use Rattle.model.specs.Flows.{period_of, flows_in}
+use Rattle.model.specs.Packets.{periods_of}
+use Rattle.model.proofs.InTime.{periods_fair}
+use Rattle.model.proofs.Packing.{periods_front}
+use Rattle.model.proofs.sums.hyper_in.Goals as goal
+
+-- the part that is handed on is the list of all periods
+front : (c : tie.After-periods) → take (flows_in c.before.before.args.numbers.now) c.periods.result ≡ periods_of c.before.before.args.numbers.now
+front c = rw c.periods.ensures (periods_front c.before.before.args.numbers.now)
+
+pub slice_bounds-hyper_period-end : goal.slice_bounds-hyper_period-end
+unfolding flows_in periods_of
+slice_bounds-hyper_period-end c = sym (ap length (front c.before) ∙ tabulate_length (period_of c.args.numbers.now) 0 (flows_in c.args.numbers.now))
+
+pub hyper_period-requires : goal.hyper_period-requires
+unfolding flows_in
+hyper_period-requires c = rw (front c.before) (periods_fair _ c.requires)
+
+pub returns : goal.returns
+unfolding flows_in
+returns c = c.hyper_period.ensures ∙ ap hyper_within (front c.before.before)

@@ -1,0 +1,57 @@
+-- `records::fields::same_bytes` meets its contract: behind the bytes that were compared, the texts are the same where they are the same.
+use mathlib.Core.Path.{◌≡◌, refl, sym, ◌∙◌}
+use mathlib.Core.List.{List}
+use mathlib.Core.Bool.{true, false}
+use Prim.Native.Nat.{ℕ, ◌+◌, ◌≤◌, ◌<◌}
+use native.Mathlib.Omega.{arith}
+use lib.ListN.{length, get_or, drop}
+use Rattle.words.specs.Bytes.{same_bytes}
+use Rattle.records.proofs.Places.{same_unlike, same_next, same_stop, same_end}
+use borrow.Author.Rules.{rules}
+use Rattle.records.proofs.fields.same_bytes.Goals as goal
+
+-- the texts are of one length, and from i on they are the same just where they are the same whole
+record Compared (xs ys : List ℕ) (end i : ℕ) : Type 0 where
+  pub within : i ≤ end
+  pub whole : end ≡ length xs
+  pub equal : length xs ≡ length ys
+  pub left : same_bytes (drop i xs) (drop i ys) ≡ same_bytes xs ys
+
+module _ (xs ys : List ℕ) (end i : ℕ) (s : Compared xs ys end i) where
+  -- a byte differs
+  differs : i < end → (get_or xs i 0 ≡ get_or ys i 0 → ⊥) → false ≡ same_bytes xs ys
+  differs h e = sym (same_stop xs ys i (omega arith) (omega arith) e) ∙ s.left
+
+  -- a byte is the same
+  agrees : i < end → get_or xs i 0 ≡ get_or ys i 0 → Compared xs ys end (i + 1)
+  agrees h e = record {
+    within = omega arith;
+    whole = s.whole;
+    equal = s.equal;
+    left = same_next xs ys i (omega arith) (omega arith) e ∙ s.left;
+  }
+
+  -- all bytes are
+  whole : end ≤ i → true ≡ same_bytes xs ys
+  whole h = sym (same_end xs ys i (omega arith) s.equal) ∙ s.left
+
+pub returns-then-a-b : goal.returns-then-a-b
+returns-then-a-b c = sym (same_unlike _ _ c.if-a-b.true)
+
+pub loop-i-init : goal.loop-i-init
+loop-i-init c = record { within = search rules; whole = search rules; equal = c.if-a-b.false; left = refl }
+
+pub returns-then-a-i : goal.returns-then-a-i
+returns-then-a-i c =
+    let at_loop_test = c.before.before.before in
+    let at_loop = at_loop_test.before in
+    differs _ _ _ _ at_loop.loop.invariant at_loop_test.loop-test.true c.if-a-i.true
+
+pub loop-i-preserved : goal.loop-i-preserved
+loop-i-preserved c =
+    let at_loop_test = c.before.before.before in
+    let at_loop = at_loop_test.before in
+    agrees _ _ _ _ at_loop.loop.invariant at_loop_test.loop-test.true c.if-a-i.false
+
+pub returns : goal.returns
+returns c = whole _ _ _ _ c.loop-i.invariant c.loop-i-test.false
