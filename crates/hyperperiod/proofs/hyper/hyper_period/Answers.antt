@@ -14,15 +14,8 @@ use Rattle.hyperperiod.specs.Hyper.{lcm_with, hyper_of, most, Periods}
 use Rattle.hyperperiod.specs.declared.hyper.Hyper.TheVariants.{Is}
 use Rattle.hyperperiod.proofs.Divisor.{gcd_positive, lcm_positive}
 use Rattle.hyperperiod.proofs.HyperPeriod.{within_is, part_above}
+use Rattle.hyperperiod.proofs.hyper.hyper_period.Invariants.{Folded}
 use Rattle.hyperperiod.proofs.hyper.hyper_period.Goals as goal
-
--- h is the least common multiple of the periods before i, so that folding the rest into it gives H
-record Folded (ps : List ℕ) (end h i : ℕ) : Type 0 where
-  pub fold : lcm_with h (drop i ps) ≡ hyper_of ps
-  pub low : 0 < h
-  pub high : h ≤ most
-  pub within : i ≤ end
-  pub whole : end ≡ length ps
 
 -- a turn divides h by d and multiplies by the period t: that fits, and folding the rest into it gives H
 record Turn (ps : List ℕ) (h i d t : ℕ) : Type 0 where
@@ -50,10 +43,10 @@ turn_of ps end h i d p f l e =
     }
 
 -- what is known after the call of `gcd`
-turn : (c : tie.After-gcd invariant-loop decreases-loop)
-    → Turn c.before.before.before.before.before.args.periods.now c.before.before.before.loop.h c.before.before.before.loop.i
-    c.gcd.result (get_or c.before.before.before.before.before.args.periods.now c.before.before.before.loop.i 0)
-turn c = turn_of _ _ _ _ _ c.before.before.before.before.before.requires c.before.before.before.loop.invariant c.before.before.loop-test.true c.gcd.ensures
+turn : (c : goal.After-gcd-d)
+    → Turn c.args.periods.now c.loop-i.h c.loop-i.i
+    c.gcd-d.result (get_or c.args.periods.now c.loop-i.i 0)
+turn c = turn_of _ _ _ _ _ c.requires c.loop-i.invariant c.loop-i-test.true c.gcd-d.ensures
 
 -- a fold that has no period left is H
 folded : (ps : List ℕ) (end h i : ℕ) → Folded ps end h i → end ≤ i → hyper_of ps ≡ h

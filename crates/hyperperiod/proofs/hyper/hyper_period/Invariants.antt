@@ -1,6 +1,18 @@
--- `hyper::hyper::hyper_period` meets its contract, by the laws of H in proofs/HyperPeriod.antt. The loop's invariant is `Folded`, what one
--- turn knows is `Turn`; an early stop is right since H is not below the fold of a part of the periods (`part-above`).
+-- The loop folds the periods into their least common multiple: what it keeps is `Folded`.
+use mathlib.Core.Path.{◌≡◌}
+use mathlib.Core.List.{List}
+use Prim.Native.Nat.{ℕ, ◌≤◌, ◌<◌}
+use lib.ListN.{length, drop}
+use Rattle.hyperperiod.specs.Hyper.{lcm_with, hyper_of, most}
 use Rattle.hyperperiod.proofs.hyper.hyper_period.Given as goal
+
+-- h is the least common multiple of the periods before i, so that folding the rest into it gives H
+pub record Folded (ps : List ℕ) (end h i : ℕ) : Type 0 where
+  pub fold : lcm_with h (drop i ps) ≡ hyper_of ps
+  pub low : 0 < h
+  pub high : h ≤ most
+  pub within : i ≤ end
+  pub whole : end ≡ length ps
 
 abbrev pub invariant-loop-i : goal.invariant-loop-i
 invariant-loop-i l = Folded l.periods l.i-end l.h l.i

@@ -18,8 +18,8 @@ loop-j-init c = (search rules, below_none _)
 
 pub returns-then-b-j : goal.returns-then-b-j
 returns-then-b-j c =
-    let a = c.args.t1 in
-    let b = c.args.t2 in
+    let a = c.args.a in
+    let b = c.args.b in
     let link = get_or a.links c.loop-i.i 0 in
     let wa : Whole a = record { array = search rules; fits = c.requires.0 } in
     let wb : Whole b = record { array = search rules; fits = c.requires.1 } in
@@ -30,12 +30,12 @@ loop-j-preserved c = (omega (arith, c.loop-j-test.true), below_more _ _ c.loop-j
 
 pub loop-i-preserved : goal.loop-i-preserved
 loop-i-preserved c =
-    let b = c.args.t2 in
+    let b = c.args.b in
     let wb : Whole b = record { array = search rules; fits = c.requires.1 } in
     (omega (arith, c.loop-i-test.true), below_more _ _ c.loop-i.invariant.1 (has_none b wb _ (λ k h. c.loop-j.invariant.1 k (omega (arith, c.loop-j-test.false)))))
 
 pub returns : goal.returns
 returns c =
-    let a = c.args.t1 in
+    let a = c.args.a in
     let wa : Whole a = record { array = search rules; fits = c.requires.0 } in
-    sym (shares_none a c.args.t2 wa (λ k h. c.loop-i.invariant.1 k (omega (arith, c.loop-i-test.false))))
+    sym (shares_none a c.args.b wa (λ k h. c.loop-i.invariant.1 k (omega (arith, c.loop-i-test.false))))

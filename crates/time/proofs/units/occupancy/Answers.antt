@@ -7,7 +7,7 @@ use Rattle.time.specs.Units.{occupancy_of}
 use Rattle.time.proofs.units.occupancy.Goals as goal
 
 -- the product that the sums start from
-product : (c : tie.Start) → c.args.r.0 * (c.args.distance + 1) ≤ 64 * 31
+product : (c : goal.Start) → c.args.r.0 * (c.args.distance + 1) ≤ 64 * 31
 product c = let d : c.args.distance + 1 ≤ 31 = omega arith in mul-le-mul c.requires.0 d
 
 pub overflow_mul-result : goal.overflow_mul-result
