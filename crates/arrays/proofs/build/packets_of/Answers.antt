@@ -3,12 +3,13 @@ use Prim.Native.Nat.{◌<◌}
 use native.Mathlib.Omega.{arith}
 use Rattle.model.specs.Flows.{period_of, flows_in}
 use Rattle.arrays.proofs.Building.{packing_none, packing_all, packing_flow, packing_turn, packing_room, turns_are, release_within}
+use Rattle.arrays.proofs.build.packets_of.Goals.{In-loop-k}
 use Rattle.arrays.proofs.build.packets_of.Goals as goal
 
 -- there is room for the packet of each turn of the inner loop
-room : (c : tie.In-loop2 invariant-loop2 decreases-loop2 invariant-loop decreases-loop) → c.before.loop2.packets.count < 1024
+room : (c : In-loop-k) → c.loop-k.packets.count < 1024
 unfolding flows_in period_of
-room c = packing_room c.before.loop2.invariant c.before.before.before.loop-test.true c.before.before.before.before.before.before.before.requires c.before.before.number_of_lem.ensures c.loop2-test.true
+room c = packing_room c.loop-k.invariant c.loop-f-test.true c.requires c.number_of-period.ensures c.loop-k-test.true
 
 pub loop-f-init : goal.loop-f-init
 loop-f-init c = packing_none _ _ c.no_packets-packets.ensures

@@ -20,10 +20,10 @@ unfolding verdict_in
 returns-then-table-n c = c.refused.ensures ∙ sym (by_10 c.args.hyper (length c.args.table.now) c.args.packets.count (first (strays c.args.flows c.args.packets c.args.table.now) c.args.packets.count) (first_pair c.args.flows c.args.packets c.args.table.now).a (first_pair c.args.flows c.args.packets c.args.table.now).b c.if-table-n.taken)
 
 pub first_outside-p-requires : goal.first_outside-p-requires
-first_outside-p-requires c = record { ready = c.XXpre; long = c.if-table-n.left }
+first_outside-p-requires c = record { ready = c.requires; long = c.if-table-n.left }
 
 pub overflow_cast-p : goal.overflow_cast-p
-overflow_cast-p c = omega (arith, c.if-p-n.taken, c.XXpre.few)
+overflow_cast-p c = omega (arith, c.if-p-n.taken, c.requires.few)
 
 pub returns-then-p-n : goal.returns-then-p-n
 unfolding verdict_in
@@ -35,12 +35,12 @@ returns-then-p-n c =
 
 pub first_meeting-pair-requires : goal.first_meeting-pair-requires
 first_meeting-pair-requires c = record {
-  scan = record { ready = c.XXpre; long = c.if-table-n.left };
+  scan = record { ready = c.requires; long = c.if-table-n.left };
   in_range = λ p h. first_least (strays c.args.flows c.args.packets c.args.table.now) c.args.packets.count p (omega (arith, c.first_outside-p.ensures, c.if-p-n.left));
 }
 
 pub collision-requires : goal.collision-requires
-collision-requires c = (omega (arith, c.if-pair-n.taken, c.XXpre.few), omega (arith, pair_small c.args.flows c.args.packets c.args.table.now c.first_meeting-pair.result c.first_meeting-pair.ensures, c.XXpre.few))
+collision-requires c = (omega (arith, c.if-pair-n.taken, c.requires.few), omega (arith, pair_small c.args.flows c.args.packets c.args.table.now c.first_meeting-pair.result c.first_meeting-pair.ensures, c.requires.few))
 
 pub returns-then-pair-n : goal.returns-then-pair-n
 unfolding verdict_in
@@ -51,7 +51,7 @@ returns-then-pair-n c =
     ∙ sym (by_12 c.args.hyper (length c.args.table.now) c.args.packets.count (first (strays c.args.flows c.args.packets c.args.table.now) c.args.packets.count) (first_pair c.args.flows c.args.packets c.args.table.now).a (first_pair c.args.flows c.args.packets c.args.table.now).b c.if-table-n.left (omega (arith, c.first_outside-p.ensures, c.if-p-n.left)) (omega (arith, ap (λ (p : Pair). p.a) e, c.if-pair-n.taken)))
 
 pub overflow_cast-n : goal.overflow_cast-n
-overflow_cast-n c = omega (arith, c.XXpre.few)
+overflow_cast-n c = omega (arith, c.requires.few)
 
 pub returns : goal.returns
 unfolding verdict_in

@@ -7,20 +7,12 @@ use Prim.Native.Nat.{ℕ, ◌+◌, ◌-◌, ◌*◌, ◌/◌, ◌≤◌, ◌<◌
 use native.Mathlib.Omega.{arith}
 use lib.ListN.{length, get_or, drop}
 use borrow.Author.Tests.{not-true, not-false}
-use Rattle.digits.specs.Numbers.{all_digits, is_formed, value_from, value_of, number_of}
+use Rattle.digits.specs.Numbers.{is_formed, value_from, value_of, number_of}
 use Rattle.digits.specs.declared.digits.Number.TheVariants.{Good}
 use Rattle.digits.proofs.Spelling.{formed_digits, digit_low, digits_here, digits_behind, value_next, value_end, value_grows, not_formed, number_above, number_good}
 use borrow.Author.Rules.{rules}
+use Rattle.digits.proofs.digits.read_number.Invariants.{Spelt}
 use Rattle.digits.proofs.digits.read_number.Goals as goal
-
--- the field is formed; the value so far is no more than the most, and with the digits from i on it is the field's
-record Spelt (field : List ℕ) (digits most end value i : ℕ) : Type 0 where
-  pub formed : is_formed digits field ≡ true
-  pub within : i ≤ end
-  pub whole : end ≡ length field
-  pub small : value ≤ most
-  pub rest : all_digits (drop i field) ≡ true
-  pub spells : value_from value (drop i field) ≡ value_of field
 
 -- nothing is read yet
 begins : (field : List ℕ) (digits most end : ℕ) → is_formed digits field ≡ true → end ≡ length field → Spelt field digits most end 0 0

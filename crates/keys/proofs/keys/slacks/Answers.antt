@@ -1,22 +1,15 @@
 -- `slacks` stores one slack in each turn.
 use mathlib.Core.Path.{◌≡◌, refl}
-use mathlib.Core.List.{List}
-use Prim.Native.Nat.{ℕ, ◌≤◌, ◌<◌}
+use Prim.Native.Nat.{◌<◌}
 use native.Mathlib.Omega.{arith}
 use mir.Syntax.{w64}
 use mir.Val.{Fits}
-use lib.ListN.{length, get_or, length-set}
+use lib.ListN.{get_or, length-set}
 use Rattle.basics.specs.Lists.{tabulate, padded}
 use Rattle.basics.proofs.Lists.{padded_next}
 use Rattle.keys.specs.Slack.{slack_in, slacks_of}
 use borrow.Author.Rules.{rules}
 use Rattle.keys.proofs.keys.slacks.Goals as goal
-
--- the array holds the slacks of the flows before g
-record Filled (due occupancy key : List ℕ) (n g : ℕ) : Type 0 where
-  pub within : g ≤ n
-  pub front : key ≡ padded 64 0 (tabulate (slack_in due occupancy) 0 g)
-  pub size : length key ≡ 64
 
 pub loop-g-init : goal.loop-g-init
 unfolding tabulate padded

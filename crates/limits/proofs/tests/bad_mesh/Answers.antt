@@ -3,16 +3,17 @@ use mathlib.Core.Path.{◌≡◌, sym, ◌∙◌}
 use mathlib.Core.Bool.{false}
 use Rattle.limits.specs.Limits.{out_of_range, bad_mesh}
 use Rattle.basics.proofs.Choose.{first_of, rest_of}
+use Rattle.limits.proofs.tests.bad_mesh.Goals.{Else-out_of_range, Else-out_of_range-2, Else-out_of_range-3}
 use Rattle.limits.proofs.tests.bad_mesh.Goals as goal
 
-past_columns : (c : tie.Else1) → out_of_range 1 16 c.before.before.args.mesh.columns ≡ false
-past_columns c = sym c.before.out_of_range.ensures ∙ c.if1.false
+past_columns : (c : Else-out_of_range) → out_of_range 1 16 c.args.mesh.columns ≡ false
+past_columns c = sym c.out_of_range.ensures ∙ c.if-out_of_range.false
 
-past_rows : (c : tie.Else2) → out_of_range 1 16 c.before.before.before.before.args.mesh.rows ≡ false
-past_rows c = sym c.before.out-of-range2.ensures ∙ c.if2.false
+past_rows : (c : Else-out_of_range-2) → out_of_range 1 16 c.args.mesh.rows ≡ false
+past_rows c = sym c.out_of_range-2.ensures ∙ c.if-out_of_range-2.false
 
-past_r : (c : tie.Else3) → out_of_range 1 64 c.before.before.before.before.before.before.args.mesh.r ≡ false
-past_r c = sym c.before.out-of-range3.ensures ∙ c.if3.false
+past_r : (c : Else-out_of_range-3) → out_of_range 1 64 c.args.mesh.r ≡ false
+past_r c = sym c.out_of_range-3.ensures ∙ c.if-out_of_range-3.false
 
 pub returns-then-out_of_range : goal.returns-then-out_of_range
 unfolding bad_mesh

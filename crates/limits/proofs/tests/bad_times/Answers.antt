@@ -5,15 +5,16 @@ use Rattle.hyperperiod.specs.Hyper.{most}
 use Rattle.limits.specs.Limits.{out_of_range, bad_times}
 use Rattle.basics.proofs.Choose.{first_of, rest_of}
 use Rattle.model.specs.Flows.{period_of, size_of, due_of}
+use Rattle.limits.proofs.tests.bad_times.Goals.{Else-out_of_range, Else-out_of_range-2}
 use Rattle.limits.proofs.tests.bad_times.Goals as goal
 
-past_period : (c : tie.Else1) → out_of_range 1 most (period_of c.before.before.before.before.args.numbers.now c.before.before.before.before.args.f) ≡ false
+past_period : (c : Else-out_of_range) → out_of_range 1 most (period_of c.args.numbers.now c.args.f) ≡ false
 unfolding period_of
-past_period c = rw (← c.before.before.number_of_lem.ensures) (sym c.before.out_of_range.ensures ∙ c.if1.false)
+past_period c = rw (← c.number_of-period.ensures) (sym c.out_of_range.ensures ∙ c.if-out_of_range.false)
 
-past_size : (c : tie.Else2) → out_of_range 1 65536 (size_of c.before.before.before.before.before.before.before.args.numbers.now c.before.before.before.before.before.before.before.args.f) ≡ false
+past_size : (c : Else-out_of_range-2) → out_of_range 1 65536 (size_of c.args.numbers.now c.args.f) ≡ false
 unfolding size_of
-past_size c = rw (← c.before.before.number-of2.ensures) (sym c.before.out-of-range2.ensures ∙ c.if2.false)
+past_size c = rw (← c.number_of.ensures) (sym c.out_of_range-2.ensures ∙ c.if-out_of_range-2.false)
 
 pub returns-then-out_of_range : goal.returns-then-out_of_range
 unfolding bad_times period_of

@@ -11,16 +11,8 @@ use Rattle.model.specs.Flows.{per_flow}
 use Rattle.lines.specs.Form.{most_kept, kept_numbers}
 use Rattle.lines.specs.Steps.{stored_at}
 use borrow.Author.Rules.{rules}
+use Rattle.lines.proofs.flows.stored.Invariants.{Copied}
 use Rattle.lines.proofs.flows.stored.Goals as goal
-
--- j of the flow's numbers stand in their places
-record Copied (count : ℕ) (flow numbers : List ℕ) (at : ℕ) (next : List ℕ) (j : ℕ) : Type 0 where
-  pub room : count < most_kept
-  pub flow_long : length flow ≡ per_flow
-  pub long : length numbers ≡ kept_numbers
-  pub place : at ≡ per_flow * count
-  pub within : j ≤ per_flow
-  pub copied : next ≡ paste numbers at flow j
 
 -- there is no room
 full : (count : ℕ) (flow numbers : List ℕ) → most_kept ≤ count → numbers ≡ stored_at numbers count flow

@@ -5,22 +5,23 @@ use native.Mathlib.Omega.{arith}
 use Rattle.time.specs.Units.{flits_of}
 use Rattle.model.specs.Flows.{source_of, target_of, size_of, occupancy_in}
 use Rattle.model.proofs.Near.{distance_small, ends_of}
+use Rattle.model.proofs.flows.occupancy_of.Goals.{After-distance-m, After-flits_of}
 use Rattle.model.proofs.flows.occupancy_of.Goals as goal
 
 -- the distance that is found is at most 30
-near : (c : tie.After-distance) → c.distance.result ≤ 30
+near : (c : After-distance-m) → c.distance-m.result ≤ 30
 unfolding source_of target_of
 near c =
-    let pre = c.before.before.before.before.before.before.requires in
-    rw (c.distance.ensures, c.before.before.before.before.number_of_lem.ensures, c.before.before.before.number-of2.ensures)
+    let pre = c.requires in
+    rw (c.distance-m.ensures, c.number_of-source.ensures, c.number_of-target.ensures)
     (distance_small _ _ _ (ends_of _ _ _ pre.fair_mesh pre.nodes))
 
 -- the payload is at most as many flits as bytes
-light : (c : tie.After-flits-of) → c.flits_of.result.0 ≤ 65536
+light : (c : After-flits_of) → c.flits_of.result.0 ≤ 65536
 unfolding flits_of size_of
 light c =
     let start = c.before.before.before.before.before.before.before in
-    let found = c.before.before.before.number-of3 in
+    let found = c.number_of-size in
     let size : found.result ≤ 65536 = rw found.ensures start.requires.times.size_high in
     rw c.flits_of.ensures (omega (arith, div-le_self found.result start.args.mesh.flit))
 

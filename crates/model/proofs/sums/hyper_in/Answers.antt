@@ -7,11 +7,12 @@ use Rattle.model.specs.Flows.{period_of, flows_in}
 use Rattle.model.specs.Packets.{periods_of}
 use Rattle.model.proofs.InTime.{periods_fair}
 use Rattle.model.proofs.Packing.{periods_front}
+use Rattle.model.proofs.sums.hyper_in.Goals.{After-periods-all}
 use Rattle.model.proofs.sums.hyper_in.Goals as goal
 
 -- the part that is handed on is the list of all periods
-front : (c : tie.After-periods) → take (flows_in c.before.before.args.numbers.now) c.periods.result ≡ periods_of c.before.before.args.numbers.now
-front c = rw c.periods.ensures (periods_front c.before.before.args.numbers.now)
+front : (c : After-periods-all) → take (flows_in c.args.numbers.now) c.periods-all.result ≡ periods_of c.args.numbers.now
+front c = rw c.periods-all.ensures (periods_front c.args.numbers.now)
 
 pub slice_bounds-hyper_period-end : goal.slice_bounds-hyper_period-end
 unfolding flows_in periods_of

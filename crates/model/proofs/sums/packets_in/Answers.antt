@@ -1,9 +1,8 @@
 -- `packets_in` adds up the turns of one flow after the other (`Counted`); 64 flows of at most 16,777,216 packets stay in 32 bits.
 use Rattle.hyperperiod.specs.Hyper.{most}
 use Rattle.model.specs.Packets.{hyper_in, turns_in, packets_in}
-use Prim.Native.Nat.{ℕ, ◌+◌, ◌*◌, ◌/◌, ◌≤◌}
-use mathlib.Core.Path.{◌≡◌, refl, ◌∙◌, ap, ap₂}
-use mathlib.Core.List.{List}
+use Prim.Native.Nat.{◌+◌, ◌*◌, ◌/◌, ◌≤◌}
+use mathlib.Core.Path.{refl, ◌∙◌, ap, ap₂}
 use native.Mathlib.Nat.{div-le_self}
 use native.Mathlib.Numerals.{add-one}
 use native.Mathlib.Omega.{arith}
@@ -13,11 +12,6 @@ use Rattle.model.specs.Flows.{period_of, flows_in}
 use Rattle.model.proofs.Packing.{turns_most}
 use borrow.Author.Rules.{rules}
 use Rattle.model.proofs.sums.packets_in.Goals as goal
-
--- the sum counts the packets of the flows before f
-record Counted (numbers : List ℕ) (sum f : ℕ) : Type 0 where
-  pub within : f ≤ flows_in numbers
-  pub count : sum ≡ sum_of (turns_in numbers) f
 
 pub loop-f-init : goal.loop-f-init
 unfolding flows_in sum_of
@@ -40,6 +34,10 @@ overflow_add-sum c =
     let sum : c.loop-f.sum ≤ c.loop-f.f * most =
     rw c.loop-f.invariant.count (turns_most numbers high c.loop-f.f) in
     omega (arith, div-le_self c.args.hyper c.number_of.result, c.loop-f-test.true, pre.0.list.flows_high)
+
+pub loop-f-smaller : goal.loop-f-smaller
+unfolding flows_in
+loop-f-smaller c = search rules
 
 pub loop-f-preserved : goal.loop-f-preserved
 unfolding flows_in sum_of turns_in turns_of period_of

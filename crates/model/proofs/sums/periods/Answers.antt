@@ -1,21 +1,14 @@
 -- `periods` stores one period after the other; the loop's invariant is that those of the flows before f stand in front (`Filled`).
-use Prim.Native.Nat.{ℕ, ◌≤◌, ◌<◌}
-use mathlib.Core.Path.{◌≡◌, refl, ◌∙◌, ap}
-use mathlib.Core.List.{List}
+use Prim.Native.Nat.{ℕ, ◌<◌}
+use mathlib.Core.Path.{refl, ◌∙◌, ap}
 use native.Mathlib.Omega.{arith}
-use lib.ListN.{length, length-set}
+use lib.ListN.{length-set}
 use Rattle.basics.specs.Lists.{tabulate, padded}
 use Rattle.model.specs.Flows.{period_of, flows_in}
 use Rattle.model.specs.Packets.{periods_of}
 use Rattle.basics.proofs.Lists.{padded_next}
 use borrow.Author.Rules.{rules}
 use Rattle.model.proofs.sums.periods.Goals as goal
-
--- the array holds the periods of the flows before f
-record Filled (numbers all : List ℕ) (f : ℕ) : Type 0 where
-  pub within : f ≤ flows_in numbers
-  pub front : all ≡ padded 64 0 (tabulate (period_of numbers) 0 f)
-  pub size : length all ≡ 64
 
 pub loop-f-init : goal.loop-f-init
 unfolding flows_in tabulate padded
@@ -32,6 +25,10 @@ offset_bounds-all-f c = omega (arith, c.requires.list.flows_high)
 pub bounds-all-f : goal.bounds-all-f
 unfolding flows_in
 bounds-all-f c = omega (arith, c.requires.list.flows_high)
+
+pub loop-f-smaller : goal.loop-f-smaller
+unfolding flows_in
+loop-f-smaller c = search rules
 
 pub loop-f-preserved : goal.loop-f-preserved
 unfolding flows_in period_of

@@ -6,12 +6,8 @@ use native.Mathlib.Omega.{arith}
 use lib.ListN.{length, get_or, drop}
 use Rattle.records.specs.Records.{index_of}
 use Rattle.records.proofs.Places.{index_here, index_next, index_end}
+use Rattle.records.proofs.fields.find.Invariants.{Sought}
 use Rattle.records.proofs.fields.find.Goals as goal
-
--- the byte stands at one place, seen from i as from the start
-record Sought (text : List ℕ) (byte from i : ℕ) : Type 0 where
-  pub within : i ≤ length text
-  pub place : i + index_of byte (drop i text) ≡ from + index_of byte (drop from text)
 
 module _ (text : List ℕ) (byte from i : ℕ) (s : Sought text byte from i) where
   -- it stands here

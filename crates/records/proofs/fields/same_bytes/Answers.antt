@@ -4,18 +4,12 @@ use mathlib.Core.List.{List}
 use mathlib.Core.Bool.{true, false}
 use Prim.Native.Nat.{ℕ, ◌+◌, ◌≤◌, ◌<◌}
 use native.Mathlib.Omega.{arith}
-use lib.ListN.{length, get_or, drop}
+use lib.ListN.{get_or}
 use Rattle.words.specs.Bytes.{same_bytes}
 use Rattle.records.proofs.Places.{same_unlike, same_next, same_stop, same_end}
 use borrow.Author.Rules.{rules}
+use Rattle.records.proofs.fields.same_bytes.Invariants.{Compared}
 use Rattle.records.proofs.fields.same_bytes.Goals as goal
-
--- the texts are of one length, and from i on they are the same just where they are the same whole
-record Compared (xs ys : List ℕ) (end i : ℕ) : Type 0 where
-  pub within : i ≤ end
-  pub whole : end ≡ length xs
-  pub equal : length xs ≡ length ys
-  pub left : same_bytes (drop i xs) (drop i ys) ≡ same_bytes xs ys
 
 module _ (xs ys : List ℕ) (end i : ℕ) (s : Compared xs ys end i) where
   -- a byte differs

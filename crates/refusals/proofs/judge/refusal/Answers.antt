@@ -7,20 +7,21 @@ use borrow.Author.Tests.{eq-eqb, ne_eqb}
 use Rattle.model.specs.declared.answers.Refusal.{Refusal}
 use Rattle.limits.proofs.Past.{mesh_fair, list_fair}
 use Rattle.refusals.proofs.Accepted.{flows_fair}
+use Rattle.refusals.proofs.judge.refusal.Goals.{Else-bad_list, Else-bad_mesh, Else-flows-ne0}
 use Rattle.refusals.proofs.judge.refusal.Goals as goal
 
 -- past 2
-past_mesh : (c : tie.Else1) → bad_mesh c.before.before.before.args.mesh ≡ false
-past_mesh c = sym c.before.bad_mesh.ensures ∙ c.if1.false
+past_mesh : (c : Else-bad_mesh) → bad_mesh c.args.mesh ≡ false
+past_mesh c = sym c.bad_mesh.ensures ∙ c.if-bad_mesh.false
 
 -- past 4
-past_list : (c : tie.Else3) → bad_list c.before.before.before.before.before.before.before.args.numbers.now ≡ false
-past_list c = sym c.before.bad_list.ensures ∙ c.if3.false
+past_list : (c : Else-bad_list) → bad_list c.args.numbers.now ≡ false
+past_list c = sym c.bad_list.ensures ∙ c.if-bad_list.false
 
 -- past 5 to 7 of every flow
-past_flows : (c : tie.Else4) → let args = c.before.before.before.before.before.before.before.before.before.before.args in
+past_flows : (c : Else-flows-ne0) → let args = c.args in
     (flows_refusal args.mesh args.numbers.now).number ≡ 0
-past_flows c = ap (λ (r : Refusal). r.number) (sym c.before.before.refuse-flows.ensures) ∙ c.if4.false
+past_flows c = ap (λ (r : Refusal). r.number) (sym c.refuse_flows-flows.ensures) ∙ c.if-flows-ne0.false
 
 pub returns-then-bad_mesh : goal.returns-then-bad_mesh
 unfolding refusal_of refuse_if or_else

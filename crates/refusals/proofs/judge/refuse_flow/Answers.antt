@@ -4,15 +4,16 @@ use mathlib.Core.Bool.{false}
 use Rattle.limits.specs.Limits.{bad_nodes, bad_times}
 use Rattle.refusals.specs.Refusals.{refuse_if, or_else, flow_refusal}
 use Rattle.limits.proofs.Past.{nodes_fair, times_fair}
+use Rattle.refusals.proofs.judge.refuse_flow.Goals.{Else-bad_nodes, Else-bad_times}
 use Rattle.refusals.proofs.judge.refuse_flow.Goals as goal
 
 -- past 5
-past_nodes : (c : tie.Else1) → bad_nodes c.before.before.before.args.mesh c.before.before.before.args.numbers.now c.before.before.before.args.f ≡ false
-past_nodes c = sym c.before.bad_nodes.ensures ∙ c.if1.false
+past_nodes : (c : Else-bad_nodes) → bad_nodes c.args.mesh c.args.numbers.now c.args.f ≡ false
+past_nodes c = sym c.bad_nodes.ensures ∙ c.if-bad_nodes.false
 
 -- past 6
-past_times : (c : tie.Else2) → bad_times c.before.before.before.before.before.args.numbers.now c.before.before.before.before.before.args.f ≡ false
-past_times c = sym c.before.bad_times.ensures ∙ c.if2.false
+past_times : (c : Else-bad_times) → bad_times c.args.numbers.now c.args.f ≡ false
+past_times c = sym c.bad_times.ensures ∙ c.if-bad_times.false
 
 pub returns-then-bad_nodes : goal.returns-then-bad_nodes
 unfolding flow_refusal refuse_if or_else

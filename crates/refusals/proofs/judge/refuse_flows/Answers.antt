@@ -1,22 +1,13 @@
 -- `refuse_flows` stops at the first flow that is refused, which is the lowest; the loop's invariant is that none before it is (`Passed`).
-use mathlib.Core.Path.{◌≡◌, sym, ◌∙◌, ap}
+use mathlib.Core.Path.{sym, ◌∙◌, ap}
 use mathlib.Core.Bool.{false}
-use mathlib.Core.List.{List}
-use Prim.Native.Nat.{ℕ, ◌≤◌, ◌<◌}
 use native.Mathlib.Omega.{arith}
 use borrow.Author.Count.{below_none, below_more}
 use Rattle.model.specs.Flows.{flows_in}
-use Rattle.refusals.specs.Refusals.{bad_flow}
-use Rattle.model.specs.declared.flows.Mesh.{Mesh}
 use Rattle.model.specs.declared.answers.Refusal.{Refusal}
 use Rattle.refusals.proofs.Accepted.{listed_at, flow_good, flows_refused, flows_accepted}
 use borrow.Author.Rules.{rules}
 use Rattle.refusals.proofs.judge.refuse_flows.Goals as goal
-
--- no flow before f is refused
-record Passed (mesh : Mesh) (numbers : List ℕ) (f : ℕ) : Type 0 where
-  pub within : f ≤ flows_in numbers
-  pub none : (k : ℕ) → k < f → bad_flow mesh numbers k ≡ false
 
 pub loop-f-init : goal.loop-f-init
 unfolding flows_in
@@ -34,6 +25,10 @@ returns-then-refusal-ne0 c =
     ∙ sym (flows_refused _ _ _ c.loop-f-test.true
     (λ e. c.if-refusal-ne0.true (ap (λ (r : Refusal). r.number) found ∙ e))
     c.loop-f.invariant.none)
+
+pub loop-f-smaller : goal.loop-f-smaller
+unfolding flows_in
+loop-f-smaller c = search rules
 
 pub loop-f-preserved : goal.loop-f-preserved
 unfolding flows_in

@@ -7,12 +7,13 @@ use Rattle.hyperperiod.proofs.HyperPeriod.{above_only}
 use Rattle.model.specs.Packets.{hyper_in}
 use Rattle.refusals.proofs.Accepted.{sums_hyper, sums_packets, sums_passes}
 use Rattle.model.proofs.Packing.{is_only}
+use Rattle.refusals.proofs.judge.refuse_sums.Goals.{In-Is-2}
 use Rattle.refusals.proofs.judge.refuse_sums.Goals as goal
 
 -- the H that is found is H, and at the limit or below
-hyper : (c : tie.After-found) → (c.found.given.0.0 ≡ hyper_in c.before.before.before.before.args.numbers.now) × (c.found.given.0.0 ≤ most)
+hyper : (c : In-Is-2) → (c.found-1.given.0.0 ≡ hyper_in c.args.numbers.now) × (c.found-1.given.0.0 ≤ most)
 unfolding hyper_in
-hyper c = is_only _ _ (sym c.before.before.hyper_in.ensures ∙ c.found.given.1)
+hyper c = is_only _ _ (sym c.hyper_in-found.ensures ∙ c.found-1.given.1)
 
 pub returns-in_default : goal.returns-in_default
 unfolding hyper_in

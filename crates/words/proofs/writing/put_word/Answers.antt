@@ -7,15 +7,8 @@ use native.Mathlib.Omega.{arith}
 use lib.ListN.{length, get_or, set, length-set}
 use lib.Seq.{paste, paste-zero, paste-suc}
 use Rattle.words.specs.Writer.{Put}
+use Rattle.words.proofs.writing.put_word.Invariants.{Copied}
 use Rattle.words.proofs.writing.put_word.Goals as goal
-
--- i bytes stand in their places
-record Copied (word before out : List ℕ) (at end i : ℕ) : Type 0 where
-  pub long : length out ≡ length before
-  pub room : at + length word ≤ length before
-  pub end_is : end ≡ length word
-  pub within : i ≤ end
-  pub copied : out ≡ paste before at word i
 
 -- none stands there yet
 begins : (word before : List ℕ) (at : ℕ) → at + length word ≤ length before → Copied word before before at (length word) 0
