@@ -4,10 +4,11 @@ use Prim.Native.Nat.{◌+◌, ◌*◌, ◌≤◌}
 use native.Mathlib.Nat.{mul-le-mul}
 use native.Mathlib.Omega.{arith}
 use Rattle.time.specs.Units.{occupancy_of}
+use Rattle.time.proofs.units.occupancy.Goals.{Start}
 use Rattle.time.proofs.units.occupancy.Goals as goal
 
 -- the product that the sums start from
-product : (c : goal.Start) → c.args.r.0 * (c.args.distance + 1) ≤ 64 * 31
+product : (c : Start) → c.args.r.0 * (c.args.distance + 1) ≤ 64 * 31
 product c = let d : c.args.distance + 1 ≤ 31 = omega arith in mul-le-mul c.requires.0 d
 
 pub overflow_mul-result : goal.overflow_mul-result
