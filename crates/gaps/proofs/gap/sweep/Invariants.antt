@@ -7,9 +7,6 @@ use Rattle.gaps.proofs.gap.sweep.Given as goal
 abbrev pub invariant-loop-a : goal.invariant-loop-a
 invariant-loop-a l = AtLink (load_of l.flow l.occupancy l.lens l.links) l.marks l.by l.count l.times l.own l.pruning l.begin l.latest l.from l.at l.span l.initial.j l.j l.t l.other l.end l.a l.a-end
 
-abbrev pub decreases-loop-a : goal.decreases-loop-a
-decreases-loop-a l = l.a-end - l.a
-
 abbrev pub invariant-loop-j : goal.invariant-loop-j
 invariant-loop-j l = AtPacket (load_of l.flow l.occupancy l.lens l.links) l.marks l.by l.count l.times l.own l.pruning l.begin l.latest l.from l.at l.span l.initial.j l.j l.t
 
@@ -18,3 +15,6 @@ decreases-loop-j l = l.count - l.j
 
 abbrev pub invariant-times : goal.invariant-times
 invariant-times l = AtTime (load_of l.flow l.occupancy l.lens l.links) l.marks l.by l.count l.times l.own l.pruning l.begin l.latest l.from l.at l.span l.j l.t
+
+abbrev pub decreases-times : goal.decreases-times
+decreases-times l = l.count - l.j
