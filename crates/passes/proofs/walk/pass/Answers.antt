@@ -23,10 +23,10 @@ pub place-gap-requires : goal.place-gap-requires
 place-gap-requires c = rw c.loop-at.invariant.longest_is (place_asks c.loop-at.invariant.ready c.loop-at.invariant.going (more c.loop-at.invariant c.loop-at-test.true) c.loop-at.invariant.honest)
 
 pub settle-requires : goal.settle-requires
-settle-requires c = settles c.loop-at.invariant.ready c.loop-at.invariant.going (more c.loop-at.invariant c.loop-at-test.true) c.place-gap.ensures.0 c.placed-1.given.1
+settle-requires c = settles c.loop-at.invariant.ready c.loop-at.invariant.going (more c.loop-at.invariant c.loop-at-test.true) c.place-gap.ensures.0 c.in-At.is
 
 pub overflow_add-tries : goal.overflow_add-tries
-overflow_add-tries c = omega (arith, tries_few c.loop-at.invariant.ready c.loop-at.invariant.going (more c.loop-at.invariant c.loop-at-test.true) c.place-gap.ensures.0 c.placed-1.given.1, c.loop-at.invariant.going.bounded, at_small c.loop-at.invariant c.loop-at-test.true)
+overflow_add-tries c = omega (arith, tries_few c.loop-at.invariant.ready c.loop-at.invariant.going (more c.loop-at.invariant c.loop-at-test.true) c.place-gap.ensures.0 c.in-At.is, c.loop-at.invariant.going.bounded, at_small c.loop-at.invariant c.loop-at-test.true)
 
 pub overflow_add-count : goal.overflow_add-count
 overflow_add-count c = omega (arith, c.loop-at.invariant.going.few, at_small c.loop-at.invariant c.loop-at-test.true)
@@ -38,16 +38,16 @@ pub loop-at-smaller-in-At : goal.loop-at-smaller-in-At
 loop-at-smaller-in-At c = omega (arith, c.loop-at-test.true)
 
 pub loop-at-preserved-in-At : goal.loop-at-preserved-in-At
-loop-at-preserved-in-At c = running_placed c.loop-at.invariant c.loop-at-test.true c.place-gap.ensures.0 c.place-gap.ensures.1 c.placed-1.given.1 c.settle.ensures.0 c.settle.ensures.1
+loop-at-preserved-in-At c = running_placed c.loop-at.invariant c.loop-at-test.true c.place-gap.ensures.0 c.place-gap.ensures.1 c.in-At.is c.settle.ensures.0 c.settle.ensures.1
 
 pub turn_away-turned-requires : goal.turn_away-turned-requires
 turn_away-turned-requires c = turns c.loop-at.invariant.ready c.loop-at.invariant.going (more c.loop-at.invariant c.loop-at-test.true)
 
 pub overflow_add-tries-in-Nowhere : goal.overflow_add-tries-in-Nowhere
-overflow_add-tries-in-Nowhere c = omega (arith, all_few c.loop-at.invariant.ready c.loop-at.invariant.going (more c.loop-at.invariant c.loop-at-test.true) (placing c.loop-at.invariant.ready c.loop-at.invariant.going (more c.loop-at.invariant c.loop-at-test.true) c.place-gap.ensures.0) c.placed-in-Nowhere-1.given.1, c.loop-at.invariant.going.bounded, at_small c.loop-at.invariant c.loop-at-test.true)
+overflow_add-tries-in-Nowhere c = omega (arith, all_few c.loop-at.invariant.ready c.loop-at.invariant.going (more c.loop-at.invariant c.loop-at-test.true) (placing c.loop-at.invariant.ready c.loop-at.invariant.going (more c.loop-at.invariant c.loop-at-test.true) c.place-gap.ensures.0) c.in-Nowhere.is, c.loop-at.invariant.going.bounded, at_small c.loop-at.invariant c.loop-at-test.true)
 
 pub returns-then-turned : goal.returns-then-turned
-returns-then-turned c = running_broken c.loop-at.invariant c.loop-at-test.true c.place-gap.ensures.0 c.place-gap.ensures.1 c.placed-in-Nowhere-1.given.1 c.turn_away-turned.ensures c.if-turned.true
+returns-then-turned c = running_broken c.loop-at.invariant c.loop-at-test.true c.place-gap.ensures.0 c.place-gap.ensures.1 c.in-Nowhere.is c.turn_away-turned.ensures c.if-turned.true
 
 pub overflow_add-at-in-Nowhere : goal.overflow_add-at-in-Nowhere
 overflow_add-at-in-Nowhere c = omega (arith, at_small c.loop-at.invariant c.loop-at-test.true)
@@ -56,7 +56,7 @@ pub loop-at-smaller : goal.loop-at-smaller
 loop-at-smaller c = omega (arith, c.loop-at-test.true)
 
 pub loop-at-preserved : goal.loop-at-preserved
-loop-at-preserved c = running_skipped c.loop-at.invariant c.loop-at-test.true c.place-gap.ensures.0 c.place-gap.ensures.1 c.placed-in-Nowhere-1.given.1 c.turn_away-turned.ensures c.if-turned.false
+loop-at-preserved c = running_skipped c.loop-at.invariant c.loop-at-test.true c.place-gap.ensures.0 c.place-gap.ensures.1 c.in-Nowhere.is c.turn_away-turned.ensures c.if-turned.false
 
 pub returns : goal.returns
 returns c = running_whole c.loop-at.invariant c.loop-at-test.false
