@@ -4,19 +4,14 @@ use borrow.Author.Rules.{rules}
 use mathlib.Core.Path.{◌≡◌, sym, ◌∙◌}
 use mathlib.Core.List.{List}
 use mathlib.Core.Bool.{true, false}
-use mathlib.Core.Logic.{⊎_elim}
 use Prim.Native.Nat.{ℕ, ◌+◌, ◌≤◌, ◌<◌}
 use native.Mathlib.Omega.{arith}
-use lib.ListN.{length, get_or, drop}
-use Rattle.digits.specs.Numbers.{is_digit, all_digits, is_formed}
+use lib.ListN.{get_or}
+use Rattle.digits.specs.Numbers.{is_digit, is_formed}
 use Rattle.digits.proofs.Spelling.{formed_empty, formed_long, formed_zero, formed_one, formed_more, below_digit, above_digit, within_digit, digits_next, digits_stop, digits_end}
+use Rattle.digits.proofs.digits.formed.Invariants.{Left}
+use Rattle.digits.proofs.digits.formed.Goals.{then-field-gt1+else-field-eq48, else-field-gt1}
 use Rattle.digits.proofs.digits.formed.Goals as goal
-
--- what is left to see: the bytes from i on are digits just where the field is formed
-record Left (field : List ℕ) (most end i : ℕ) : Type 0 where
-  pub within : i ≤ end
-  pub whole : end ≡ length field
-  pub digits : all_digits (drop i field) ≡ is_formed most field
 
 -- a byte that is no digit ends it
 stop : (field : List ℕ) (most end i : ℕ) → Left field most end i → i < end → is_digit (get_or field i 0) ≡ false → false ≡ is_formed most field
@@ -48,30 +43,20 @@ loop-i-init c = record {
   within = search rules;
   whole = search rules;
   digits =
-      ⊎_elim
-      (λ w. sym (formed_more _ _ w.0.taken c.if-most-field.false w.2.left))
-      (λ w. sym (formed_one _ _ c.if-field-lt1.false c.if-most-field.false w.left))
-      c.if-field-gt1.branch;
+      elim c.if-field-gt1.branch [
+        | then-field-gt1+else-field-eq48 w ↦ sym (formed_more _ _ w.if-field-gt1.true c.if-most-field.false w.if-field-eq48.false)
+        | else-field-gt1 w ↦ sym (formed_one _ _ c.if-field-lt1.false c.if-most-field.false w.if-field-gt1.false)
+      ];
 }
 
 pub returns-then-byte-lt48 : goal.returns-then-byte-lt48
 returns-then-byte-lt48 c = stop _ _ _ _ c.loop-i.invariant c.loop-i-test.true (below_digit _ c.if-byte-lt48.true)
 
 pub returns-then-byte-gt57 : goal.returns-then-byte-gt57
-returns-then-byte-gt57 c =
-    let at_if5 = c.before in
-    let at_loop_test = at_if5.before.before in
-    let at_loop = at_loop_test.before in
-    stop _ _ _ _ at_loop.loop.invariant at_loop_test.loop-test.true
-    (above_digit _ at_if5.if5.false c.if-byte-gt57.true)
+returns-then-byte-gt57 c = stop _ _ _ _ c.loop-i.invariant c.loop-i-test.true (above_digit _ c.if-byte-lt48.false c.if-byte-gt57.true)
 
 pub loop-i-preserved : goal.loop-i-preserved
-loop-i-preserved c =
-    let at_if5 = c.before in
-    let at_loop_test = at_if5.before.before in
-    let at_loop = at_loop_test.before in
-    pass _ _ _ _ at_loop.loop.invariant at_loop_test.loop-test.true
-    (within_digit _ at_if5.if5.false c.if-byte-gt57.false)
+loop-i-preserved c = pass _ _ _ _ c.loop-i.invariant c.loop-i-test.true (within_digit _ c.if-byte-lt48.false c.if-byte-gt57.false)
 
 pub returns : goal.returns
 returns c = done _ _ _ _ c.loop-i.invariant c.loop-i-test.false

@@ -6,7 +6,6 @@ use mathlib.Core.Bool.{true}
 use Prim.Native.Nat.{ℕ, ◌+◌, ◌-◌, ◌*◌, ◌/◌, ◌≤◌, ◌<◌}
 use native.Mathlib.Omega.{arith}
 use lib.ListN.{length, get_or, drop}
-use borrow.Author.Tests.{not-true, not-false}
 use Rattle.digits.specs.Numbers.{is_formed, value_from, value_of, number_of}
 use Rattle.digits.specs.declared.digits.Number.TheVariants.{Good}
 use Rattle.digits.proofs.Spelling.{formed_digits, digit_low, digits_here, digits_behind, value_next, value_end, value_grows, not_formed, number_above, number_good}
@@ -60,38 +59,27 @@ module _ (field : List ℕ) (digits most end value i : ℕ) (s : Spelt field dig
   finished h = sym (number_good digits most value field s.formed (sym s.spells ∙ value_end field i value (omega arith)) s.small)
 
 pub returns-then-not-formed : goal.returns-then-not-formed
-returns-then-not-formed c = sym (not_formed _ _ _ (sym c.formed.ensures ∙ not-true _ c.if-not-formed.true))
+returns-then-not-formed c = sym (not_formed _ _ _ (sym c.formed.ensures ∙ c.if-not-formed.true))
 
 pub loop-i-init : goal.loop-i-init
 unfolding value_of
-loop-i-init c = begins _ _ _ _ (sym c.formed.ensures ∙ not-false _ c.if-not-formed.false) (search rules)
+loop-i-init c = begins _ _ _ _ (sym c.formed.ensures ∙ c.if-not-formed.false) (search rules)
 
 pub returns-then-most-value : goal.returns-then-most-value
 returns-then-most-value c = sym (number_above _ _ _ (passed _ _ _ _ _ _ c.loop-i.invariant c.loop-i-test.true c.if-most-value.true))
 
 pub overflow_sub-digit : goal.overflow_sub-digit
-overflow_sub-digit c =
-    let at_loop_test = c.before.before.before in
-    let at_loop = at_loop_test.before in
-    rw c.wide-digit.ensures (low _ _ _ _ _ _ at_loop.loop.invariant at_loop_test.loop-test.true)
+overflow_sub-digit c = rw c.wide-digit.ensures (low _ _ _ _ _ _ c.loop-i.invariant c.loop-i-test.true)
 
 pub returns-then-most-value-2 : goal.returns-then-most-value-2
 returns-then-most-value-2 c =
-    let at_wide = c.before in
-    let at_if2 = at_wide.before.before in
-    let at_loop_test = at_if2.before in
-    let at_loop = at_loop_test.before in
-    sym (number_above _ _ _ (above _ _ _ _ _ _ at_loop.loop.invariant at_loop_test.loop-test.true _
-    (ap (λ (b : ℕ). b - 48) at_wide.wide.ensures) at_if2.if2.false c.if-most-value-2.true))
+    sym (number_above _ _ _ (above _ _ _ _ _ _ c.loop-i.invariant c.loop-i-test.true _
+    (ap (λ (b : ℕ). b - 48) c.wide-digit.ensures) c.if-most-value.false c.if-most-value-2.true))
 
 pub loop-i-preserved : goal.loop-i-preserved
 loop-i-preserved c =
-    let at_wide = c.before in
-    let at_if2 = at_wide.before.before in
-    let at_loop_test = at_if2.before in
-    let at_loop = at_loop_test.before in
-    onward _ _ _ _ _ _ at_loop.loop.invariant at_loop_test.loop-test.true _
-    (ap (λ (b : ℕ). b - 48) at_wide.wide.ensures) at_if2.if2.false c.if-most-value-2.false
+    onward _ _ _ _ _ _ c.loop-i.invariant c.loop-i-test.true _
+    (ap (λ (b : ℕ). b - 48) c.wide-digit.ensures) c.if-most-value.false c.if-most-value-2.false
 
 pub returns : goal.returns
 returns c = finished _ _ _ _ _ _ c.loop-i.invariant c.loop-i-test.false

@@ -36,16 +36,10 @@ pub loop-i-init : goal.loop-i-init
 loop-i-init c = record { within = search rules; whole = search rules; equal = c.if-a-b.false; left = refl }
 
 pub returns-then-a-i : goal.returns-then-a-i
-returns-then-a-i c =
-    let at_loop_test = c.before.before.before in
-    let at_loop = at_loop_test.before in
-    differs _ _ _ _ at_loop.loop.invariant at_loop_test.loop-test.true c.if-a-i.true
+returns-then-a-i c = differs _ _ _ _ c.loop-i.invariant c.loop-i-test.true c.if-a-i.true
 
 pub loop-i-preserved : goal.loop-i-preserved
-loop-i-preserved c =
-    let at_loop_test = c.before.before.before in
-    let at_loop = at_loop_test.before in
-    agrees _ _ _ _ at_loop.loop.invariant at_loop_test.loop-test.true c.if-a-i.false
+loop-i-preserved c = agrees _ _ _ _ c.loop-i.invariant c.loop-i-test.true c.if-a-i.false
 
 pub returns : goal.returns
 returns c = whole _ _ _ _ c.loop-i.invariant c.loop-i-test.false

@@ -7,16 +7,11 @@ use Rattle.words.proofs.writing.put_number.Goals as goal
 
 pub put_word-requires : goal.put_word-requires
 put_word-requires c =
-    let at_decimal = c.before.before in
-    let start = at_decimal.before.before.before in
-    let few = digits_most _ _ start.ranges.n.fits at_decimal.decimal.ensures.1.0 in
-    omega (arith, few, at_decimal.decimal.ensures.0.1, start.requires)
+    let few = digits_most _ _ c.ranges.n.fits c.decimal-k.ensures.len in
+    omega (arith, few, c.decimal-k.ensures.in_bounds, c.requires)
 
 pub returns : goal.returns
 returns c =
-    let at_put_word = c.before.before in
-    let at_decimal = at_put_word.before.before.before in
-    let start = at_decimal.before.before.before in
-    let few = digits_most _ _ start.ranges.n.fits at_decimal.decimal.ensures.1.0 in
-    put_as _ _ _ _ _ _ _ (at_decimal.decimal.ensures.1.1 ∙ digits_are _ _ at_decimal.decimal.ensures.1.0)
-    (put_within _ 20 _ _ _ _ _ (omega (arith, few, at_decimal.decimal.ensures.0.1)) at_put_word.put_word.ensures)
+    let few = digits_most _ _ c.ranges.n.fits c.decimal-k.ensures.len in
+    put_as _ _ _ _ _ _ _ (c.decimal-k.ensures.digits ∙ digits_are _ _ c.decimal-k.ensures.len)
+    (put_within _ 20 _ _ _ _ _ (omega (arith, few, c.decimal-k.ensures.in_bounds)) c.put_word.ensures)

@@ -23,18 +23,10 @@ placed time e = sym (rw (ne_eqb time none e))
 
 pub returns-then-time-eq-NO_TIME : goal.returns-then-time-eq-NO_TIME
 returns-then-time-eq-NO_TIME c =
-    let at_put_word = c.before.before in
-    let at_if1 = at_put_word.before.before.before in
-    let at_put_byte = at_if1.before.before.before in
-    let start = at_put_byte.before.before.before in
-    put_as _ _ _ _ _ _ _ (skipped _ at_if1.if1.true)
-    (put_within 5 21 _ _ _ _ _ (omega arith) (put_next 1 4 _ _ _ _ _ _ _ _ (omega (arith, start.requires)) at_put_byte.put_byte.ensures at_put_word.put_word.ensures))
+    put_as _ _ _ _ _ _ _ (skipped _ c.if-time-eq-NO_TIME.true)
+    (put_within 5 21 _ _ _ _ _ (omega arith) (put_next 1 4 _ _ _ _ _ _ _ _ (omega (arith, c.requires)) c.put_byte-next.ensures c.put_word.ensures))
 
 pub returns : goal.returns
 returns c =
-    let at_put_number = c.before.before in
-    let at_if1 = at_put_number.before.before in
-    let at_put_byte = at_if1.before.before.before in
-    let start = at_put_byte.before.before.before in
-    put_as _ _ _ _ _ _ _ (placed _ at_if1.if1.false)
-    (put_next 1 20 _ _ _ _ _ _ _ _ start.requires at_put_byte.put_byte.ensures at_put_number.put_number.ensures)
+    put_as _ _ _ _ _ _ _ (placed _ c.if-time-eq-NO_TIME.false)
+    (put_next 1 20 _ _ _ _ _ _ _ _ c.requires c.put_byte-next.ensures c.put_number.ensures)
