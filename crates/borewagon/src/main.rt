@@ -1,10 +1,14 @@
 // The program: reads a text from standard input, calls the planner, and writes every piece of its answer.
 #![tactic(auto)]
 
-use libc::{STDIN_FILENO, STDOUT_FILENO};
 use planner::{Plan, plan_of};
 use printer::{Cursor, LINE, MOST_LINES, put_piece};
 use reader::TEXT_BUFFER;
+
+// The numbers of the input and of the output.
+const STDIN: i32 = 0;
+
+const STDOUT: i32 = 1;
 
 // Writes the lines of a plan, one after the other; a closed output ends it.
 fn print(plan: Plan, table: &[u32]) {
@@ -16,7 +20,7 @@ fn print(plan: Plan, table: &[u32]) {
     for _ in 0..MOST_LINES {
         let piece = put_piece(cursor, answer, table, &flow, &turn, &mut line);
         let len = piece.len;
-        if !io::write_all(STDOUT_FILENO, &line[..len]) {
+        if !io::write_all(STDOUT, &line[..len]) {
             return;
         }
         if piece.done {
@@ -29,7 +33,7 @@ fn print(plan: Plan, table: &[u32]) {
 // Reads the text, has it planned, and prints the answer.
 fn main() {
     let mut text = [0u8; TEXT_BUFFER];
-    let n = io::read_full(STDIN_FILENO, &mut text);
+    let n = io::read_full(STDIN, &mut text);
     let mut table = [0u32; 1024];
     let plan = plan_of(&text[..n], &mut table);
     print(plan, &table);

@@ -1,6 +1,5 @@
 // An answer written in one line: its eight fields, the length of the lent table and its places, parted by blanks.
-use crate::stream::front;
-use libc::STDOUT_FILENO;
+use crate::stream::{STDOUT, front};
 use model::Answer;
 use words::{put_byte, put_number};
 
@@ -58,7 +57,7 @@ fn write_line(line: &mut [u8], len: usize) {
         return;
     }
     line[len - 1] = b'\n';
-    io::write_all(STDOUT_FILENO, front(line, len));
+    io::write_all(STDOUT, front(line, len));
 }
 
 // Writes the line of an answer and a table, which is put together in a lent buffer.

@@ -1,10 +1,9 @@
 // A call of each kind: read, made, and its answer written.
 use crate::answers::put_answer;
 use crate::stream::{
-    Stream, after, front, next_byte, next_list, next_small, next_text, part, spoilt,
+    STDOUT, Stream, after, front, next_byte, next_list, next_small, next_text, part, spoilt,
 };
 use audit::check;
-use libc::STDOUT_FILENO;
 use model::{Answer, Mesh};
 use planner::{Plan, plan_of};
 use printer::{Cursor, LINE, MOST_LINES, put_piece};
@@ -140,7 +139,7 @@ fn put_plan(plan: Plan, table: &[u32]) {
     for _ in 0..MOST_LINES {
         let piece = put_piece(cursor, answer, table, &flow, &turn, &mut line);
         let len = piece.len;
-        io::write_all(STDOUT_FILENO, &line[..len]);
+        io::write_all(STDOUT, &line[..len]);
         if piece.done {
             return;
         }

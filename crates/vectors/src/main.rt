@@ -6,8 +6,7 @@ mod calls;
 mod stream;
 
 use calls::answer_call;
-use libc::STDOUT_FILENO;
-use stream::{Stream, ended, filled};
+use stream::{STDOUT, Stream, ended, filled};
 
 // The most calls that are answered.
 const CALLS: u32 = 100000;
@@ -37,6 +36,6 @@ fn main() {
     let mut line = io::large_buffer();
     let stream = run(&mut buffer, &mut line);
     if !stream.good {
-        io::write_all(STDOUT_FILENO, b"malformed\n");
+        io::write_all(STDOUT, b"malformed\n");
     }
 }

@@ -1,8 +1,12 @@
 // Calls on standard input, read byte by byte through a lent buffer: words, numbers, lists of numbers and texts.
 ghost use Rattle.std.specs.Prelude.{◌≤◌};
 
-use libc::STDIN_FILENO;
 use records::LARGEST;
+
+// The numbers of the input and of the output.
+const STDIN: i32 = 0;
+
+pub const STDOUT: i32 = 1;
 
 // Where the input is read: the next byte's place in the buffer, the end of the part that is filled, and whether
 // everything read so far had the form that was asked for.
@@ -55,7 +59,7 @@ pub fn filled(buffer: &mut [u8], stream: Stream) -> Stream {
     if stream.at < stream.end {
         return stream;
     }
-    let end = io::read_full(STDIN_FILENO, buffer);
+    let end = io::read_full(STDIN, buffer);
     Stream {
         at: 0,
         end,
