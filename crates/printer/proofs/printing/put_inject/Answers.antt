@@ -8,16 +8,9 @@ use Rattle.printer.proofs.printing.put_inject.Goals as goal
 pub returns : goal.returns
 unfolding ended inject_line
 returns c =
-    let at_put_byte = c.before.before in
-    let at_put_time = at_put_byte.before.before.before.before in
-    let at_put_field3 = at_put_time.before.before.before.before in
-    let at_put_field2 = at_put_field3.before.before.before.before in
-    let at_put_field = at_put_field2.before.before.before.before in
-    let at_put_word = at_put_field.before.before.before.before in
-    let start = at_put_word.before.before.before.before in
-    let line2 = put_next _ 21 _ _ _ _ _ _ _ _ (omega (arith, start.requires)) at_put_word.put_word.ensures at_put_field.put_field.ensures in
-    let line3 = put_next _ 21 _ _ _ _ _ _ _ _ (omega (arith, start.requires)) line2 at_put_field2.put-field2.ensures in
-    let line4 = put_next _ 21 _ _ _ _ _ _ _ _ (omega (arith, start.requires)) line3 at_put_field3.put-field3.ensures in
-    let line5 = put_next _ 21 _ _ _ _ _ _ _ _ (omega (arith, start.requires)) line4 at_put_time.put_time.ensures in
-    let line6 = put_next _ 1 _ _ _ _ _ _ _ _ (omega (arith, start.requires)) line5 at_put_byte.put_byte.ensures in
-    put_within _ longest _ _ _ _ _ (omega (arith, start.requires)) line6
+    let line2 = put_next _ 21 _ _ _ _ _ _ _ _ (omega (arith, c.requires)) c.put_word-one.ensures c.put_field-two.ensures in
+    let line3 = put_next _ 21 _ _ _ _ _ _ _ _ (omega (arith, c.requires)) line2 c.put_field-three.ensures in
+    let line4 = put_next _ 21 _ _ _ _ _ _ _ _ (omega (arith, c.requires)) line3 c.put_field-four.ensures in
+    let line5 = put_next _ 21 _ _ _ _ _ _ _ _ (omega (arith, c.requires)) line4 c.put_time-five.ensures in
+    let line6 = put_next _ 1 _ _ _ _ _ _ _ _ (omega (arith, c.requires)) line5 c.put_byte.ensures in
+    put_within _ longest _ _ _ _ _ (omega (arith, c.requires)) line6
