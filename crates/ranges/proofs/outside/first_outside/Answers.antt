@@ -7,7 +7,6 @@ use Rattle.time.specs.Units.{latest_of}
 use Rattle.packet.specs.Table.{time_at}
 use Rattle.arrays.specs.Arrays.{packet_in}
 use Rattle.ranges.proofs.Times.{early, late, timely}
-use mathlib.Core.Bool.{false}
 use native.Mathlib.Omega.{arith}
 use Rattle.ranges.specs.Ranges.{strays}
 use borrow.Author.Rules.{rules}
@@ -47,15 +46,15 @@ bounds-table-p c = omega (arith, c.requires.long, c.loop-p-test.true)
 
 pub returns-then-time-release : goal.returns-then-time-release
 unfolding strays time_at packet_in
-returns-then-time-release c = sym (first_is (strays c.args.t1 c.args.t2 c.args.table.now) c.args.t2.count c.loop-p.p c.loop-p-test.true (early (packet_in c.args.t1 c.args.t2 c.loop-p.p) (get_or c.args.table.now c.loop-p.p 0) c.if-time-release.true) c.loop-p.invariant.1)
+returns-then-time-release c = sym (first_is (strays c.args.flows c.args.packets c.args.table.now) c.args.packets.count c.loop-p.p c.loop-p-test.true (early (packet_in c.args.flows c.args.packets c.loop-p.p) (get_or c.args.table.now c.loop-p.p 0) c.if-time-release.true) c.loop-p.invariant.1)
 
 pub returns-then-latest-time : goal.returns-then-latest-time
 unfolding strays time_at packet_in latest_of
-returns-then-latest-time c = sym (first_is (strays c.args.t1 c.args.t2 c.args.table.now) c.args.t2.count c.loop-p.p c.loop-p-test.true (late (packet_in c.args.t1 c.args.t2 c.loop-p.p) (get_or c.args.table.now c.loop-p.p 0) c.if-latest-time.true) c.loop-p.invariant.1)
+returns-then-latest-time c = sym (first_is (strays c.args.flows c.args.packets c.args.table.now) c.args.packets.count c.loop-p.p c.loop-p-test.true (late (packet_in c.args.flows c.args.packets c.loop-p.p) (get_or c.args.table.now c.loop-p.p 0) c.if-latest-time.true) c.loop-p.invariant.1)
 
 pub loop-p-preserved : goal.loop-p-preserved
 unfolding strays time_at packet_in latest_of
-loop-p-preserved c = (omega (arith, c.loop-p-test.true), below_more _ _ c.loop-p.invariant.1 (timely (packet_in c.args.t1 c.args.t2 c.loop-p.p) (get_or c.args.table.now c.loop-p.p 0) c.if-time-release.false c.if-latest-time.false))
+loop-p-preserved c = (omega (arith, c.loop-p-test.true), below_more _ _ c.loop-p.invariant.1 (timely (packet_in c.args.flows c.args.packets c.loop-p.p) (get_or c.args.table.now c.loop-p.p 0) c.if-time-release.false c.if-latest-time.false))
 
 pub returns : goal.returns
-returns c = sym (first_none (strays c.args.t1 c.args.t2 c.args.table.now) c.args.t2.count (λ k h. c.loop-p.invariant.1 k (omega (arith, c.loop-p-test.false))))
+returns c = sym (first_none (strays c.args.flows c.args.packets c.args.table.now) c.args.packets.count (λ k h. c.loop-p.invariant.1 k (omega (arith, c.loop-p-test.false))))

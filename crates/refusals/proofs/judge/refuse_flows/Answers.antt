@@ -1,6 +1,5 @@
 -- `refuse_flows` stops at the first flow that is refused, which is the lowest; the loop's invariant is that none before it is (`Passed`).
 use mathlib.Core.Path.{sym, ◌∙◌, ap}
-use mathlib.Core.Bool.{false}
 use native.Mathlib.Omega.{arith}
 use borrow.Author.Count.{below_none, below_more}
 use Rattle.model.specs.Flows.{flows_in}
@@ -25,10 +24,6 @@ returns-then-refusal-ne0 c =
     ∙ sym (flows_refused _ _ _ c.loop-f-test.true
     (λ e. c.if-refusal-ne0.true (ap (λ (r : Refusal). r.number) found ∙ e))
     c.loop-f.invariant.none)
-
-pub loop-f-smaller : goal.loop-f-smaller
-unfolding flows_in
-loop-f-smaller c = search rules
 
 pub loop-f-preserved : goal.loop-f-preserved
 unfolding flows_in
