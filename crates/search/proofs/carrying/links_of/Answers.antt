@@ -11,7 +11,7 @@ pub with_path-more-requires : goal.with_path-more-requires
 with_path-more-requires c = (c.loop-f-test.true, c.loop-f.invariant.long, c.requires c.loop-f.f c.loop-f-test.true)
 
 pub loop-f-preserved : goal.loop-f-preserved
-loop-f-preserved c = rw c.with_path-more.ensures (spreading_next c.args.t1 c.loop-f.links c.loop-f.f c.loop-f.invariant c.loop-f-test.true (c.requires c.loop-f.f c.loop-f-test.true))
+loop-f-preserved c = rw c.with_path-more.ensures (spreading_next c.args.paths c.loop-f.links c.loop-f.f c.loop-f.invariant c.loop-f-test.true (c.requires c.loop-f.f c.loop-f-test.true))
 
 pub returns : goal.returns
 returns c = record { long = c.loop-f.invariant.long; links_at = λ g a h k. c.loop-f.invariant.links_at g a (omega (arith, c.loop-f-test.false)) k }
