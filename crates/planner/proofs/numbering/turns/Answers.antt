@@ -40,7 +40,7 @@ unfolding packet_in
 loop-p-preserved c =
     let p = c.loop-p.p in
     let all = c.loop-p.all in
-    let turn : ℕ → ℕ = (λ p. (packet_in c.args.t1 c.args.t2 p).turn) in (
+    let turn : ℕ → ℕ = (λ p. (packet_in c.args.flows c.args.packets p).turn) in (
       padded_next 1024 0 turn p (omega (arith, c.requires.ready.few, c.loop-p-test.true)) c.loop-p.invariant.0 refl,
       omega (arith, c.loop-p-test.true),
       length-set all p (turn p) ∙ c.loop-p.invariant.2,
@@ -48,5 +48,5 @@ loop-p-preserved c =
 
 pub returns : goal.returns
 returns c =
-    let e : c.loop-p.p ≡ c.args.t2.count = omega (arith, c.loop-p.invariant.1, c.loop-p-test.false) in
-    c.loop-p.invariant.0 ∙ ap (λ (n : ℕ). padded 1024 0 (tabulate (λ p. (packet_in c.args.t1 c.args.t2 p).turn) 0 n)) e
+    let e : c.loop-p.p ≡ c.args.packets.count = omega (arith, c.loop-p.invariant.1, c.loop-p-test.false) in
+    c.loop-p.invariant.0 ∙ ap (λ (n : ℕ). padded 1024 0 (tabulate (λ p. (packet_in c.args.flows c.args.packets p).turn) 0 n)) e

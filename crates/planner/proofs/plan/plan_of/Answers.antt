@@ -1,4 +1,5 @@
 -- `plan_of` takes the case of the definition that the reader says.
+use mathlib.Core.List.{[]}
 use mathlib.Core.Path.{◌≡◌, sym, ◌∙◌, ap}
 use native.Mathlib.Omega.{arith}
 use lib.ListN.{length}
