@@ -17,13 +17,13 @@ use Rattle.audit.proofs.verdict.verdict.Goals as goal
 
 pub returns-then-table-n : goal.returns-then-table-n
 unfolding verdict_in
-returns-then-table-n c = c.refused.ensures ∙ sym (by_10 c.args.hyper (length c.args.table.now) c.args.packets.count (first (strays c.args.flows c.args.packets c.args.table.now) c.args.packets.count) (first_pair c.args.flows c.args.packets c.args.table.now).a (first_pair c.args.flows c.args.packets c.args.table.now).b c.if-table-n.taken)
+returns-then-table-n c = c.refused.ensures ∙ sym (by_10 c.args.hyper (length c.args.table.now) c.args.packets.count (first (strays c.args.flows c.args.packets c.args.table.now) c.args.packets.count) (first_pair c.args.flows c.args.packets c.args.table.now).a (first_pair c.args.flows c.args.packets c.args.table.now).b c.if-table-n.true)
 
 pub first_outside-p-requires : goal.first_outside-p-requires
-first_outside-p-requires c = record { ready = c.requires; long = c.if-table-n.left }
+first_outside-p-requires c = record { ready = c.requires; long = c.if-table-n.false }
 
 pub overflow_cast-p : goal.overflow_cast-p
-overflow_cast-p c = omega (arith, c.if-p-n.taken, c.requires.few)
+overflow_cast-p c = omega (arith, c.if-p-n.true, c.requires.few)
 
 pub returns-then-p-n : goal.returns-then-p-n
 unfolding verdict_in
@@ -31,16 +31,16 @@ returns-then-p-n c =
     let e = c.first_outside-p.ensures in
     c.refused-then-p-n.ensures
     ∙ ap (λ (p : ℕ). refused_by (record { number = 11; place = p })) e
-    ∙ sym (by_11 c.args.hyper (length c.args.table.now) c.args.packets.count (first (strays c.args.flows c.args.packets c.args.table.now) c.args.packets.count) (first_pair c.args.flows c.args.packets c.args.table.now).a (first_pair c.args.flows c.args.packets c.args.table.now).b c.if-table-n.left (omega (arith, e, c.if-p-n.taken)))
+    ∙ sym (by_11 c.args.hyper (length c.args.table.now) c.args.packets.count (first (strays c.args.flows c.args.packets c.args.table.now) c.args.packets.count) (first_pair c.args.flows c.args.packets c.args.table.now).a (first_pair c.args.flows c.args.packets c.args.table.now).b c.if-table-n.false (omega (arith, e, c.if-p-n.true)))
 
 pub first_meeting-pair-requires : goal.first_meeting-pair-requires
 first_meeting-pair-requires c = record {
-  scan = record { ready = c.requires; long = c.if-table-n.left };
-  in_range = λ p h. first_least (strays c.args.flows c.args.packets c.args.table.now) c.args.packets.count p (omega (arith, c.first_outside-p.ensures, c.if-p-n.left));
+  scan = record { ready = c.requires; long = c.if-table-n.false };
+  in_range = λ p h. first_least (strays c.args.flows c.args.packets c.args.table.now) c.args.packets.count p (omega (arith, c.first_outside-p.ensures, c.if-p-n.false));
 }
 
 pub collision-requires : goal.collision-requires
-collision-requires c = (omega (arith, c.if-pair-n.taken, c.requires.few), omega (arith, pair_small c.args.flows c.args.packets c.args.table.now c.first_meeting-pair.result c.first_meeting-pair.ensures, c.requires.few))
+collision-requires c = (omega (arith, c.if-pair-n.true, c.requires.few), omega (arith, pair_small c.args.flows c.args.packets c.args.table.now c.first_meeting-pair.result c.first_meeting-pair.ensures, c.requires.few))
 
 pub returns-then-pair-n : goal.returns-then-pair-n
 unfolding verdict_in
@@ -48,7 +48,7 @@ returns-then-pair-n c =
     let e = c.first_meeting-pair.ensures in
     c.collision.ensures
     ∙ ap (λ (p : Pair). collided p.a p.b) e
-    ∙ sym (by_12 c.args.hyper (length c.args.table.now) c.args.packets.count (first (strays c.args.flows c.args.packets c.args.table.now) c.args.packets.count) (first_pair c.args.flows c.args.packets c.args.table.now).a (first_pair c.args.flows c.args.packets c.args.table.now).b c.if-table-n.left (omega (arith, c.first_outside-p.ensures, c.if-p-n.left)) (omega (arith, ap (λ (p : Pair). p.a) e, c.if-pair-n.taken)))
+    ∙ sym (by_12 c.args.hyper (length c.args.table.now) c.args.packets.count (first (strays c.args.flows c.args.packets c.args.table.now) c.args.packets.count) (first_pair c.args.flows c.args.packets c.args.table.now).a (first_pair c.args.flows c.args.packets c.args.table.now).b c.if-table-n.false (omega (arith, c.first_outside-p.ensures, c.if-p-n.false)) (omega (arith, ap (λ (p : Pair). p.a) e, c.if-pair-n.true)))
 
 pub overflow_cast-n : goal.overflow_cast-n
 overflow_cast-n c = omega (arith, c.requires.few)
@@ -58,4 +58,4 @@ unfolding verdict_in
 returns c =
     let e = c.first_meeting-pair.ensures in
     c.passed.ensures
-    ∙ sym (by_0 c.args.hyper (length c.args.table.now) c.args.packets.count (first (strays c.args.flows c.args.packets c.args.table.now) c.args.packets.count) (first_pair c.args.flows c.args.packets c.args.table.now).a (first_pair c.args.flows c.args.packets c.args.table.now).b c.if-table-n.left (omega (arith, c.first_outside-p.ensures, c.if-p-n.left)) (omega (arith, ap (λ (p : Pair). p.a) e, c.if-pair-n.left)))
+    ∙ sym (by_0 c.args.hyper (length c.args.table.now) c.args.packets.count (first (strays c.args.flows c.args.packets c.args.table.now) c.args.packets.count) (first_pair c.args.flows c.args.packets c.args.table.now).a (first_pair c.args.flows c.args.packets c.args.table.now).b c.if-table-n.false (omega (arith, c.first_outside-p.ensures, c.if-p-n.false)) (omega (arith, ap (λ (p : Pair). p.a) e, c.if-pair-n.false)))

@@ -1,5 +1,4 @@
 -- `first_meeting` returns at the first packet that has a partner, with the lowest.
-use mathlib.Core.Bool.{false}
 use native.Mathlib.Omega.{arith}
 use borrow.Author.Count.{below_none, below_more}
 use Rattle.pairs.proofs.Pairs.{none_higher, pair_found, pair_none}

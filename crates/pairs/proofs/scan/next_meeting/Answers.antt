@@ -1,6 +1,5 @@
 -- `next_meeting` returns at the first higher packet whose window overlaps and whose path shares a link.
 use mathlib.Core.Path.{sym, ◌∙◌, ◌≡◌}
-use mathlib.Core.Logic.{⊎_elim}
 use borrow.Author.Count.{below_more}
 use Rattle.basics.proofs.First.{first_is, first_none}
 use Rattle.packet.specs.Table.{time_at}
@@ -9,6 +8,7 @@ use Rattle.pairs.proofs.Walks.{over_soon, not_lower, not_overlapping, not_sharin
 use mathlib.Core.Bool.{false}
 use native.Mathlib.Omega.{arith}
 use Rattle.pairs.specs.Scan.{meets_in}
+use Rattle.pairs.proofs.scan.next_meeting.Goals.{then-overlap+else-share, else-overlap}
 use Rattle.pairs.proofs.scan.next_meeting.Goals as goal
 
 pub bounds-packets-a : goal.bounds-packets-a
@@ -30,7 +30,7 @@ pub bounds-flows-f-2 : goal.bounds-flows-f-2
 bounds-flows-f-2 c = c.requires.0.scan.ready.flow_in c.args.a c.requires.1
 
 pub loop-b-init : goal.loop-b-init
-loop-b-init c = (omega arith, omega (arith, c.requires.1), not_lower c.args.t1 c.args.t2 c.args.table.now c.args.a)
+loop-b-init c = (omega arith, omega (arith, c.requires.1), not_lower c.args.flows c.args.packets c.args.table.now c.args.a)
 
 pub bounds-packets-b : goal.bounds-packets-b
 bounds-packets-b c = omega (arith, c.requires.0.scan.ready.few, c.loop-b-test.true)
@@ -46,7 +46,7 @@ bounds-flows-g c = c.requires.0.scan.ready.flow_in c.loop-b.b c.loop-b-test.true
 
 pub overlap-requires : goal.overlap-requires
 unfolding packet_in time_at
-overlap-requires c = (omega (arith, over_soon c.args.t1 c.args.t2 c.args.table.now c.requires.0 c.args.a c.requires.1), omega (arith, over_soon c.args.t1 c.args.t2 c.args.table.now c.requires.0 c.loop-b.b c.loop-b-test.true))
+overlap-requires c = (omega (arith, over_soon c.args.flows c.args.packets c.args.table.now c.requires.0 c.args.a c.requires.1), omega (arith, over_soon c.args.flows c.args.packets c.args.table.now c.requires.0 c.loop-b.b c.loop-b-test.true))
 
 pub offset_bounds-flows-g-then-overlap : goal.offset_bounds-flows-g-then-overlap
 offset_bounds-flows-g-then-overlap c = omega (arith, c.requires.0.scan.ready.flow_in c.loop-b.b c.loop-b-test.true)
@@ -59,17 +59,18 @@ share-requires c = (c.requires.0.scan.ready.short c.args.a c.requires.1, c.requi
 
 pub returns-then-share : goal.returns-then-share
 unfolding packet_in time_at
-returns-then-share c = sym (first_is (meets_in c.args.t1 c.args.t2 c.args.table.now c.args.a) c.args.t2.count c.loop-b.b c.loop-b-test.true (met c.args.t1 c.args.t2 c.args.table.now c.args.a c.loop-b.b c.loop-b.invariant.0 (sym c.overlap.ensures ∙ c.if-overlap.true) (sym c.share.ensures ∙ c.if-share.true)) c.loop-b.invariant.2)
+returns-then-share c = sym (first_is (meets_in c.args.flows c.args.packets c.args.table.now c.args.a) c.args.packets.count c.loop-b.b c.loop-b-test.true (met c.args.flows c.args.packets c.args.table.now c.args.a c.loop-b.b c.loop-b.invariant.0 (sym c.overlap.ensures ∙ c.if-overlap.true) (sym c.share.ensures ∙ c.if-share.true)) c.loop-b.invariant.2)
 
 pub loop-b-preserved : goal.loop-b-preserved
 unfolding packet_in time_at
 loop-b-preserved c =
-    let here : meets_in c.args.t1 c.args.t2 c.args.table.now c.args.a c.loop-b.b ≡ false =
-    ⊎_elim (λ w. not_sharing c.args.t1 c.args.t2 c.args.table.now c.args.a c.loop-b.b (sym w.2.ensures ∙ w.3.left))
-    (λ w. not_overlapping c.args.t1 c.args.t2 c.args.table.now c.args.a c.loop-b.b (sym c.overlap.ensures ∙ w.left))
-    c.if-overlap.branch
+    let here : meets_in c.args.flows c.args.packets c.args.table.now c.args.a c.loop-b.b ≡ false =
+    elim c.if-overlap.branch [
+      | then-overlap+else-share w ↦ not_sharing c.args.flows c.args.packets c.args.table.now c.args.a c.loop-b.b (sym w.share.ensures ∙ w.if-share.false)
+      | else-overlap w ↦ not_overlapping c.args.flows c.args.packets c.args.table.now c.args.a c.loop-b.b (sym c.overlap.ensures ∙ w.if-overlap.false)
+    ]
     in
     (omega (arith, c.loop-b.invariant.0), omega (arith, c.loop-b-test.true), below_more _ _ c.loop-b.invariant.2 here)
 
 pub returns : goal.returns
-returns c = sym (first_none (meets_in c.args.t1 c.args.t2 c.args.table.now c.args.a) c.args.t2.count (λ k h. c.loop-b.invariant.2 k (omega (arith, c.loop-b-test.false))))
+returns c = sym (first_none (meets_in c.args.flows c.args.packets c.args.table.now c.args.a) c.args.packets.count (λ k h. c.loop-b.invariant.2 k (omega (arith, c.loop-b-test.false))))
