@@ -1,7 +1,6 @@
 -- `lowest_in` stops at the first place that holds no time, or at the end.
 use native.Mathlib.Omega.{arith}
 use mathlib.Core.Path.{sym}
-use mathlib.Core.Bool.{false}
 use borrow.Author.Count.{below_none, below_more}
 use Rattle.basics.proofs.First.{first_is, first_none}
 use Rattle.reports.proofs.Reporting.{not_placed, is_placed}

@@ -32,11 +32,13 @@ loop-p-preserved c =
     let test : ℕ → Bool = λ q. not (placed c.args.times.now q) in
     let next = count_next test c.loop-p.p in
     let before = c.loop-p.invariant.0 in
-    let below : c.loop-p.p < length c.args.times.now = omega (arith, c.requires.0, c.requires.1, c.loop-p-test.true) in
-    (elim c.if-times-p.branch [
-      then-times-p w ↦ omega (arith, ap as_number (not_placed c.args.times.now c.loop-p.p below w.if-times-p.true), w.skipped-is)
-    | else-times-p w ↦ omega (arith, ap as_number (is_placed c.args.times.now c.loop-p.p below w.if-times-p.false), w.skipped-is)
-    ], omega (arith, c.loop-p-test.true))
+    let below : c.loop-p.p < length c.args.times.now = omega (arith, c.requires.0, c.requires.1, c.loop-p-test.true) in (
+      elim c.if-times-p.branch [
+        | then-times-p w ↦ omega (arith, ap as_number (not_placed c.args.times.now c.loop-p.p below w.if-times-p.true), w.skipped-is)
+        | else-times-p w ↦ omega (arith, ap as_number (is_placed c.args.times.now c.loop-p.p below w.if-times-p.false), w.skipped-is)
+      ],
+      omega (arith, c.loop-p-test.true),
+    )
 
 pub returns : goal.returns
 returns c =

@@ -4,7 +4,6 @@ use borrow.Author.Tests.{ne_eqb}
 use Rattle.routes.proofs.Common.{Whole, shares_at, has_array, has_none, shares_none}
 use mathlib.Core.Path.{sym, refl}
 use native.Mathlib.Omega.{arith}
-use mathlib.Core.Bool.{false}
 use lib.ListN.{get_or}
 use Rattle.routes.specs.Route.{links_of}
 use borrow.Author.Rules.{rules}

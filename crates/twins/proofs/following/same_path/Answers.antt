@@ -1,7 +1,7 @@
 -- `same_path` compares the lengths, then link by link.
 use Prim.Native.Nat.{◌+◌, ◌*◌}
 use mathlib.Core.Path.{refl, sym, ◌∙◌, ap}
-use mathlib.Core.Bool.{true, not}
+use mathlib.Core.Bool.{not}
 use lib.Dec.{eqb}
 use lib.ListN.{get_or}
 use native.Mathlib.Omega.{arith}
