@@ -1,5 +1,5 @@
 -- Laws of the lowest number that passes, and of "some" and "every" number below n.
--- In order: what `firstFrom` does; then `first` as the rest of the house uses it (its bounds, that it passes, that none
+-- In order: what `first_from` does; then `first` as the rest of the house uses it (its bounds, that it passes, that none
 -- before it does, and how to show that a number is it); then `some` and `every`, each made from and taken apart.
 use mathlib.Core.Path.{◌≡◌, refl, sym, ◌∙◌, ap}
 use mathlib.Core.Bool.{Bool, true, false, not}
@@ -11,7 +11,7 @@ use native.Mathlib.Omega.{arith}
 use borrow.Author.Tests.{ltb-true, ltb-false, lt-ltb, le-ltb, not-true, not-false}
 use Rattle.basics.specs.First.{first_from, first, some, every}
 
--- ---- `firstFrom`
+-- ---- `first_from`
 
 -- it lies at or after the start and at or before the end of its range
 from_within : (test : ℕ → Bool) (i n : ℕ) → (i ≤ first_from test i n) × (first_from test i n ≤ i + n)

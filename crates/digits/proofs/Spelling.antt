@@ -15,7 +15,7 @@ use Rattle.basics.proofs.Choose.{both_first, both_second, both_not}
 use Rattle.digits.specs.Numbers.{is_digit, all_digits, no_leading_zero, is_formed, value_from, value_of, is_number, number_of}
 use Rattle.digits.specs.declared.digits.Number.TheVariants.{Good, Bad}
 
--- ---- `isFormed`
+-- ---- `is_formed`
 
 -- an empty field is no number
 pub formed_empty : (most : ℕ) (field : List ℕ) → length field < 1 → is_formed most field ≡ false

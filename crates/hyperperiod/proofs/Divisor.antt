@@ -1,13 +1,13 @@
 -- The greatest common divisor and the least common multiple are what their names say.
--- In order: the two equations of `gcdOf`; an induction along its calls; that it divides both numbers and is the greatest;
--- then `lcmOf`: its product with the divisor, that it is a multiple of both numbers, the least, and positive.
+-- In order: the two equations of `gcd_of`; an induction along its calls; that it divides both numbers and is the greatest;
+-- then `lcm_of`: its product with the divisor, that it is a multiple of both numbers, the least, and positive.
 use mathlib.Core.Path.{◌≡◌, refl, ◌∙◌, ap}
 use Prim.Native.Nat.{ℕ, zero, suc, ◌*◌, ◌/◌, ◌%◌, ◌≤◌, ◌<◌, ◌∣◌}
 use native.Mathlib.Nat.{one-mul, mul_assoc, mul_comm, mul_right_comm, mod-lt, mod_def, mul-sub, mul-pos, dvd_refl, dvd-zero, dvd-sub, dvd-mod_iff, dvd-mul_left, dvd-mul_right, dvd-mul_right_of_dvd, mul-dvd-mul_left, mul-dvd-mul_right, dvd_of_mul-dvd-mul_right, div-mul_cancel, pos_of_dvd_of_pos}
 use native.Mathlib.Omega.{arith}
 use Rattle.hyperperiod.specs.Divisor.{gcd_f, gcd_of, lcm_of}
 
--- ---- `gcdOf`
+-- ---- `gcd_of`
 
 -- fuel never matters from the second number on
 fuel : (n m a b : ℕ) → b ≤ n → b ≤ m → gcd_f n a b ≡ gcd_f m a b
@@ -65,7 +65,7 @@ gcd_greatest d a b p q = rw one-mul at (greatest_times d 1 a b (rw one-mul p) (r
 pub gcd_positive : (a b : ℕ) → 0 < a → 0 < gcd_of a b
 gcd_positive a b h = pos_of_dvd_of_pos (gcd_divides a b).0 h
 
--- ---- `lcmOf`
+-- ---- `lcm_of`
 
 -- times the greatest common divisor it is the product
 lcm_gcd : (a b : ℕ) → lcm_of a b * gcd_of a b ≡ a * b

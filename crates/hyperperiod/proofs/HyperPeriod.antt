@@ -1,6 +1,6 @@
--- The hyper-period is the least common multiple of the periods, and `hyperWithin` refuses it exactly above the limit.
--- In order: the fold `lcmWith` (a multiple of its start and of every period, dividing every common multiple, positive);
--- the same of `hyperOf`, H, with that it is the least; then `hyperWithin` on both sides of the limit, and from a fold that passes it.
+-- The hyper-period is the least common multiple of the periods, and `hyper_within` refuses it exactly above the limit.
+-- In order: the fold `lcm_with` (a multiple of its start and of every period, dividing every common multiple, positive);
+-- the same of `hyper_of`, H, with that it is the least; then `hyper_within` on both sides of the limit, and from a fold that passes it.
 use mathlib.Core.Path.{◌≡◌}
 use mathlib.Core.List.{List, [], ◌∷◌}
 use Prim.Native.Nat.{ℕ, zero, suc, ◌≤◌, ◌<◌, ◌∣◌}
@@ -14,7 +14,7 @@ use Rattle.hyperperiod.specs.Hyper.{lcm_with, hyper_of, hyper_within, most}
 use Rattle.hyperperiod.specs.declared.hyper.Hyper.TheVariants.{Is, Above}
 use Rattle.hyperperiod.proofs.Divisor.{lcm_multiple, lcm_least, lcm_positive}
 
--- ---- `lcmWith`
+-- ---- `lcm_with`
 
 -- a claim holds of every period
 abbrev pub Each : (ℕ → Type 0) → List ℕ → Type 0
@@ -42,7 +42,7 @@ with_least h (t ∷ ts) p low =
     let ih = with_least (lcm_of h t) ts (lcm_positive h t p (low 0 (omega arith))) (λ i l. low (suc i) (omega arith)) in
     (λ m d e. ih.0 m (lcm_least m h t p d (e 0 (omega arith))) (λ i l. e (suc i) (omega arith)), ih.1)
 
--- ---- `hyperOf`
+-- ---- `hyper_of`
 
 -- H is a multiple of every period
 pub hyper_multiple : (ps : List ℕ) → Each (λ t. t ∣ hyper_of ps) ps
@@ -64,7 +64,7 @@ module _ (ps : List ℕ) (low : Each (λ t. 0 < t) ps) where
   unfolding hyper_of
   hyper_positive = (with_least 1 ps (omega arith) low).1
 
--- ---- `hyperWithin`
+-- ---- `hyper_within`
 
 -- an H at the limit or below is the answer
 pub within_is : (ps : List ℕ) → hyper_of ps ≤ most → hyper_within ps ≡ Is (hyper_of ps)

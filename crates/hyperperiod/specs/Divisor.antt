@@ -1,7 +1,7 @@
 -- The greatest common divisor by recursion on a falling remainder, and the least common multiple.
 use Rattle.std.specs.Prelude.{ℕ, zero, suc, ◌*◌, ◌/◌, ◌%◌}
 
--- `fuel` bounds the depth; the remainder falls, so the second number is enough (`gcd-step` in proofs/ has the equation)
+-- `fuel` bounds the depth; the remainder falls, so the second number is enough (`gcd_step` in proofs/ has the equation)
 unfoldable pub gcd_f : ℕ → ℕ → ℕ → ℕ
 gcd_f zero a b = a
 gcd_f (suc fuel) a zero = a

@@ -14,7 +14,7 @@ use Rattle.model.specs.Fair.{FairMesh, FairList, FairNodes, FairTimes}
 use Rattle.model.specs.declared.flows.Mesh.{Mesh}
 use Rattle.basics.proofs.Choose.{neither, none_of}
 
--- ---- `outOfRange`
+-- ---- `out_of_range`
 
 -- a number that is not outside a range is in it
 pub inside : (low high n : ℕ) → out_of_range low high n ≡ false → (low ≤ n) × (n ≤ high)

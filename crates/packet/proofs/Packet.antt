@@ -18,7 +18,7 @@ use Rattle.time.specs.Window.{overlaps}
 use Rattle.time.proofs.Windows.{overlaps_swap}
 use Rattle.packet.specs.Packet.{Packet, may_start, collide}
 
--- ---- `mayStart`
+-- ---- `may_start`
 
 -- a time from the release on, with the occupancy done by the deadline, is in the range
 pub start_at : (p : Packet) (s : ℕ) → p.release ≤ s → s + p.occupancy ≤ p.deadline → may_start p s ≡ true

@@ -1,5 +1,5 @@
 -- Laws of the table: number 11, number 12 and `passes`, each made and taken apart.
--- In order: `outside`; `meets`; `meetsHigher`; then what a passed table gives, what makes a table pass, and, at the end, what a
+-- In order: `outside`; `meets`; `meets_higher`; then what a passed table gives, what makes a table pass, and, at the end, what a
 -- table that does not pass has: a lowest packet outside its range, or else a lowest meeting pair.
 use mathlib.Core.Path.{◌≡◌, refl, sym, ◌∙◌, ap}
 use mathlib.Core.Bool.{Bool, true, false, not, false≢true}
@@ -39,7 +39,7 @@ module _ (ps : List Packet) (table : List ℕ) where
   unfolding outside
   start_inside p e = ap not e
 
-  -- ---- 12: `meets` and `meetsHigher`
+  -- ---- 12: `meets` and `meets_higher`
 
   -- a packet meets a higher-numbered one that it collides with
   pub meets_at : (a b : ℕ) → a < b → collide (packet_at ps a) (time_at table a) (packet_at ps b) (time_at table b) ≡ true

@@ -14,7 +14,7 @@ pub record Found : Type 0 where
   pub tries : ℕ
 
 -- the passes from a list and its fail counts on: one that is broken off is followed by a new one, one that runs to the end is the
--- result. `fuel` bounds how many are begun and is never what ends them (`more-fuel` in proofs/ has the law)
+-- result. `fuel` bounds how many are begun and is never what ends them (`more_fuel` in proofs/ has the law)
 unfoldable pub passes_from : ℕ → List Packet → ℕ → ℕ → List ℕ → List ℕ → ℕ → ℕ → Found
 passes_from zero ps f g list fails passes tries =
     record { table = replicate (length ps) none; passes = passes; tries = tries }

@@ -1,6 +1,6 @@
 -- What the tests leave: numbers that get past all tests are in their ranges (`..-fair`), and numbers in their ranges get past them
 -- (`..-passes`). In document 01's order: a flow; all flows; 8 and 9; then
--- the whole, `accepted-fair` and `fair-accepted`.
+-- the whole, `accepted_fair` and `fair_accepted`.
 use mathlib.Core.Path.{◌≡◌, refl, ap}
 use mathlib.Core.Bool.{Bool, true, false, not}
 use mathlib.Core.List.{List}

@@ -11,7 +11,7 @@ use Rattle.basics.specs.Choose.{choose}
 use Rattle.refusals.specs.Refusals.{accepted, refuse_if, or_else}
 use Rattle.model.specs.declared.answers.Refusal.{Refusal}
 
--- ---- `refuseIf`
+-- ---- `refuse_if`
 
 -- a refusal whose number is none had a test that did not pass
 pub refuse_none : (bad : Bool) (number place : ℕ) → 0 < number → (refuse_if bad number place).number ≡ 0 → bad ≡ false

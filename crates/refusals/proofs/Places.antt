@@ -1,5 +1,5 @@
 -- Every refusal is a row of document 01's table, at the place that the row names: 0 for 2, 4, 8 and 9, the flow for 5, 6 and 7.
--- Of the flows that are refused it is the lowest, by its own first test (`Lowest`). The law is `refusal-given`, at the end.
+-- Of the flows that are refused it is the lowest, by its own first test (`Lowest`). The law is `refusal_given`, at the end.
 use mathlib.Core.Path.{◌≡◌, refl}
 use mathlib.Core.Bool.{Bool, true, false}
 use mathlib.Core.List.{List}

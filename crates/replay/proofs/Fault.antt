@@ -1,5 +1,5 @@
 -- The faults that the check names show in replay over one hyper-period.
--- In order: `fault-11`, a time outside its range is a link held too early or too late; `fault-12`, a meeting pair is a link held
+-- In order: `fault_11`, a time outside its range is a link held too early or too late; `fault_12`, a meeting pair is a link held
 -- twice in one cycle. Each gives the link and the cycle. A table time may be any number.
 use mathlib.Core.Path.{◌≡◌, refl}
 use mathlib.Core.Bool.{true}

@@ -1,7 +1,7 @@
 -- Demand 3: the check passes a table exactly when replay is clean.
--- In order: the range of each packet of a passed table; that holding a link together is a collision; `passed-replays`, a passed
--- table replays clean over any number of hyper-periods; `replays-passed`, a table that replays clean over one number of them, from
--- one up, passes; and the two as one theorem, `check-is-replay`, for each single number, and `check-is-every-replay`, in the
+-- In order: the range of each packet of a passed table; that holding a link together is a collision; `passed_replays`, a passed
+-- table replays clean over any number of hyper-periods; `replays_passed`, a table that replays clean over one number of them, from
+-- one up, passes; and the two as one theorem, `check_is_replay`, for each single number, and `check_is_every_replay`, in the
 -- owner's words, for all of them.
 use mathlib.Core.Path.{◌≡◌, sym, ◌∙◌}
 use mathlib.Core.Bool.{true, false≢true}

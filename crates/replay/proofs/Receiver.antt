@@ -1,6 +1,6 @@
 -- What a receiver sees in the replay of a passed table.
 -- In order: how many periods there are; when packets are released, so that each period has one packet and no more; that a packet
--- of a passed table ends in the period that it is released in, and so is that period's packet; and `receiver-sees`.
+-- of a passed table ends in the period that it is released in, and so is that period's packet; and `receiver_sees`.
 use mathlib.Core.Path.{◌≡◌, refl, sym, ◌∙◌, ap}
 use mathlib.Core.Bool.{true}
 use mathlib.Core.List.{List}
