@@ -27,7 +27,8 @@ pub fn formed(field: &[u8], most: usize) -> bool
         return false;
     }
     if 1 < field.len() {
-        if field[0] == b'0' {
+        let zero_first = field[0] == b'0';
+        if zero_first {
             return false;
         }
     }

@@ -14,6 +14,7 @@ pub enum Hyper {
 }
 
 // The greatest common divisor; the remainder falls.
+#[tactic(auto, using(crate::proofs::Divisor::gcd_zero))]
 pub fn gcd(a: u32, b: u32) -> u32
     ensures { result ≡ gcd_of a b }
 {

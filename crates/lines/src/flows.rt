@@ -30,6 +30,7 @@ pub fn no_numbers() -> [u32; KEPT_NUMBERS]
 }
 
 // The numbers with a flow's own in their place; a flow past the most that are kept leaves them.
+#[tactic(auto, unfolding(crate::specs::Steps::stored_at))]
 fn stored(
     numbers: [u32; KEPT_NUMBERS],
     count: usize,

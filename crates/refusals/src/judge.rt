@@ -66,7 +66,8 @@ fn refuse_sums(numbers: &[u32]) -> Refusal
             place: 0,
         };
     };
-    if 1024 < packets_in(numbers, hyper) {
+    let many = 1024 < packets_in(numbers, hyper);
+    if many {
         return Refusal {
             number: 9,
             place: 0,

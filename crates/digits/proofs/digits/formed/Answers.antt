@@ -10,7 +10,7 @@ use lib.ListN.{get_or}
 use Rattle.digits.specs.Numbers.{is_digit, is_formed}
 use Rattle.digits.proofs.Spelling.{formed_empty, formed_long, formed_zero, formed_one, formed_more, below_digit, above_digit, within_digit, digits_next, digits_stop, digits_end}
 use Rattle.digits.proofs.digits.formed.Invariants.{Left}
-use Rattle.digits.proofs.digits.formed.Goals.{then-field-gt1+else-field-eq48, else-field-gt1}
+use Rattle.digits.proofs.digits.formed.Goals.{then-field-gt1+else-zero_first, else-field-gt1}
 use Rattle.digits.proofs.digits.formed.Goals as goal
 
 -- a byte that is no digit ends it
@@ -35,8 +35,8 @@ returns-then-field-lt1 c = sym (formed_empty _ _ c.if-field-lt1.true)
 pub returns-then-most-field : goal.returns-then-most-field
 returns-then-most-field c = sym (formed_long _ _ c.if-field-lt1.false c.if-most-field.true)
 
-pub returns-then-field-eq48 : goal.returns-then-field-eq48
-returns-then-field-eq48 c = sym (formed_zero _ _ c.if-field-gt1.true c.if-most-field.false c.if-field-eq48.true)
+pub returns-then-zero_first : goal.returns-then-zero_first
+returns-then-zero_first c = sym (formed_zero _ _ c.if-field-gt1.true c.if-most-field.false c.if-zero_first.true)
 
 pub loop-i-init : goal.loop-i-init
 loop-i-init c = record {
@@ -44,7 +44,7 @@ loop-i-init c = record {
   whole = search rules;
   digits =
       elim c.if-field-gt1.branch [
-        | then-field-gt1+else-field-eq48 w ↦ sym (formed_more _ _ w.if-field-gt1.true c.if-most-field.false w.if-field-eq48.false)
+        | then-field-gt1+else-zero_first w ↦ sym (formed_more _ _ w.if-field-gt1.true c.if-most-field.false w.if-zero_first.false)
         | else-field-gt1 w ↦ sym (formed_one _ _ c.if-field-lt1.false c.if-most-field.false w.if-field-gt1.false)
       ];
 }

@@ -20,11 +20,11 @@ pub returns-in_default : goal.returns-in_default
 unfolding hyper_in
 returns-in_default c = sym (sums_hyper _ (above_only _ (sym c.in_default.ensures)))
 
-pub packets_in-requires : goal.packets_in-requires
-packets_in-requires c = let h = hyper _ _ c.in-Is.ensures in (c.requires, h.0, h.1)
+pub packets_in-many-requires : goal.packets_in-many-requires
+packets_in-many-requires c = let h = hyper _ _ c.in-Is.ensures in (c.requires, h.0, h.1)
 
-pub returns-then-packets_in-gt1024 : goal.returns-then-packets_in-gt1024
-returns-then-packets_in-gt1024 c = let h = hyper _ _ c.in-Is.ensures in sym (sums_packets _ (omega arith) (omega (arith, c.if-packets_in-gt1024.true, c.packets_in.ensures)))
+pub returns-then-many : goal.returns-then-many
+returns-then-many c = let h = hyper _ _ c.in-Is.ensures in sym (sums_packets _ (omega arith) (omega (arith, c.if-many.true, c.packets_in-many.ensures)))
 
 pub returns : goal.returns
-returns c = let h = hyper _ _ c.in-Is.ensures in sym (sums_passes _ (omega arith) (omega (arith, c.if-packets_in-gt1024.false, c.packets_in.ensures)))
+returns c = let h = hyper _ _ c.in-Is.ensures in sym (sums_passes _ (omega arith) (omega (arith, c.if-many.false, c.packets_in-many.ensures)))

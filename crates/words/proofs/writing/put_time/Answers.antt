@@ -21,12 +21,12 @@ placed : (time : ℕ) → (time ≡ none → ⊥) → tab ∷ decimal time ≡ t
 unfolding time_field
 placed time e = sym (rw (ne_eqb time none e))
 
-pub returns-then-time-eq-NO_TIME : goal.returns-then-time-eq-NO_TIME
-returns-then-time-eq-NO_TIME c =
-    put_as _ _ _ _ _ _ _ (skipped _ c.if-time-eq-NO_TIME.true)
+pub returns-then-skipped : goal.returns-then-skipped
+returns-then-skipped c =
+    put_as _ _ _ _ _ _ _ (skipped _ c.if-skipped.true)
     (put_within 5 21 _ _ _ _ _ (omega arith) (put_next 1 4 _ _ _ _ _ _ _ _ (omega (arith, c.requires)) c.put_byte-next.ensures c.put_word.ensures))
 
 pub returns : goal.returns
 returns c =
-    put_as _ _ _ _ _ _ _ (placed _ c.if-time-eq-NO_TIME.false)
+    put_as _ _ _ _ _ _ _ (placed _ c.if-skipped.false)
     (put_next 1 20 _ _ _ _ _ _ _ _ c.requires c.put_byte-next.ensures c.put_number.ensures)
