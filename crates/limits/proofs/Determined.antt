@@ -12,7 +12,7 @@ use Rattle.limits.proofs.tests.bad_nodes.Reads as bad_nodes_reads
 use Rattle.limits.proofs.tests.bad_nodes.Kinds as bad_nodes_kinds
 use Rattle.limits.proofs.tests.bad_times.Reads as bad_times_reads
 use Rattle.limits.proofs.tests.bad_times.Kinds as bad_times_kinds
-use Rattle.limits.proofs.tests.too_long.Reads as too_long_lem
+use Rattle.limits.proofs.tests.too_long.Reads as too_long_reads
 use Rattle.limits.proofs.tests.too_long.Kinds as too_long_kinds
 
 -- whether a number lies outside a range
@@ -36,5 +36,5 @@ pub bad_times_determined : Determined 1 bad_times_kinds.ps bad_times_kinds.r bad
 bad_times_determined κs a x y s t p q = p ∙ sym q
 
 -- the test of 7
-pub too_long_determined : Determined 1 too_long_kinds.ps too_long_kinds.r too_long_lem.Post
+pub too_long_determined : Determined 1 too_long_kinds.ps too_long_kinds.r too_long_reads.Post
 too_long_determined κs a x y s t p q = p ∙ sym q

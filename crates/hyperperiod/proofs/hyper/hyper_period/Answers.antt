@@ -15,6 +15,7 @@ use Rattle.hyperperiod.specs.declared.hyper.Hyper.TheVariants.{Is}
 use Rattle.hyperperiod.proofs.Divisor.{gcd_positive, lcm_positive}
 use Rattle.hyperperiod.proofs.HyperPeriod.{within_is, part_above}
 use Rattle.hyperperiod.proofs.hyper.hyper_period.Invariants.{Folded}
+use Rattle.hyperperiod.proofs.hyper.hyper_period.Goals.{After-gcd}
 use Rattle.hyperperiod.proofs.hyper.hyper_period.Goals as goal
 
 -- a turn divides h by d and multiplies by the period t: that fits, and folding the rest into it gives H
@@ -42,6 +43,10 @@ turn_of ps end h i d p f l e =
       fold = rw (n, add-one) (rw (drop-cons ps i 0 k) at f.fold);
     }
 
+-- what is known after the call of `gcd`
+turn : (c : After-gcd) → Turn c.args.periods.now c.loop-i.h c.loop-i.i c.gcd.result (get_or c.args.periods.now c.loop-i.i 0)
+turn c = turn_of _ _ _ _ _ c.requires c.loop-i.invariant c.loop-i-test.true c.gcd.ensures
+
 -- a fold that has no period left is H
 folded : (ps : List ℕ) (end h i : ℕ) → Folded ps end h i → end ≤ i → hyper_of ps ≡ h
 unfolding lcm_with
@@ -54,28 +59,26 @@ unfolding lcm_with hyper_of
 loop-i-init c = record { fold = refl; low = search rules; high = search rules; within = search rules; whole = search rules }
 
 pub nonzero_div-next : goal.nonzero_div-next
-nonzero_div-next c = (turn_of _ _ _ _ _ c.requires c.loop-i.invariant c.loop-i-test.true c.gcd.ensures).divisor
+nonzero_div-next c = (turn c).divisor
 
 pub overflow_cast-next : goal.overflow_cast-next
-overflow_cast-next c = omega (arith, (turn_of _ _ _ _ _ c.requires c.loop-i.invariant c.loop-i-test.true c.gcd.ensures).quotient)
+overflow_cast-next c = omega (arith, (turn c).quotient)
 
 pub overflow_cast-next-in-loop-i : goal.overflow_cast-next-in-loop-i
-overflow_cast-next-in-loop-i c = omega (arith, (turn_of _ _ _ _ _ c.requires c.loop-i.invariant c.loop-i-test.true c.gcd.ensures).period)
+overflow_cast-next-in-loop-i c = omega (arith, (turn c).period)
 
 pub overflow_mul-next : goal.overflow_mul-next
-overflow_mul-next c = omega (arith, (turn_of _ _ _ _ _ c.requires c.loop-i.invariant c.loop-i-test.true c.gcd.ensures).product)
+overflow_mul-next c = omega (arith, (turn c).product)
 
 pub returns-then-next : goal.returns-then-next
-returns-then-next c = sym (part_above _ c.requires.low _ _ (turn_of _ _ _ _ _ c.requires c.loop-i.invariant c.loop-i-test.true c.gcd.ensures).fold c.if-next.true)
+returns-then-next c =
+    let turn = turn_of _ _ _ _ _ c.requires c.loop-i.invariant c.loop-i-test.true c.gcd.ensures in
+    sym (part_above _ c.requires.low _ _ turn.fold c.if-next.true)
 
 pub loop-i-preserved : goal.loop-i-preserved
-loop-i-preserved c = record {
-  fold = (turn_of _ _ _ _ _ c.requires c.loop-i.invariant c.loop-i-test.true c.gcd.ensures).fold;
-  low = (turn_of _ _ _ _ _ c.requires c.loop-i.invariant c.loop-i-test.true c.gcd.ensures).positive;
-  high = search rules;
-  within = search rules;
-  whole = search rules;
-}
+loop-i-preserved c =
+    let turn = turn_of _ _ _ _ _ c.requires c.loop-i.invariant c.loop-i-test.true c.gcd.ensures in
+    record { fold = turn.fold; low = turn.positive; high = search rules; within = search rules; whole = search rules }
 
 pub returns : goal.returns
 returns c =

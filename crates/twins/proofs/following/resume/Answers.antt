@@ -1,12 +1,27 @@
 -- `resume` asks whether there is a twin, and goes behind it.
-use mathlib.Core.Path.{refl, sym, ◌∙◌}
-use Prim.Native.Nat.{◌-◌, ◌≤◌, ◌<◌}
+use mathlib.Core.Path.{◌≡◌, refl, sym, ◌∙◌}
+use mathlib.Core.Bool.{true}
+use mathlib.Core.List.{List}
+use lib.ListN.{get_or}
+use Prim.Native.Nat.{ℕ, ◌-◌, ◌≤◌, ◌<◌}
 use native.Mathlib.Omega.{arith}
 use borrow.Author.Tests.{lt-ltb, le-ltb, le-leb, lt-leb}
-use Rattle.load.specs.Load.{load_of, flow_at, span_of}
-use Rattle.twins.specs.Twins.{resume_at}
+use Rattle.hyperperiod.specs.Hyper.{most}
+use Rattle.load.specs.Load.{Load, flow_at, span_of}
+use Rattle.twins.specs.Twins.{is_twin, resume_at, Resume}
 use Rattle.twins.proofs.Twinning.{twin_timed}
 use Rattle.twins.proofs.following.resume.Goals as goal
+
+-- a twin so many packets before p starts soon, and holds its links for some cycles and not for long
+behind : {load : Load} (release : List ℕ) {times : List ℕ} {f p back : ℕ} → Resume load times f p → 1 ≤ back → back ≤ p
+    → is_twin load release times p (p - back) ≡ true
+    → (get_or times (p - back) 0 ≤ most) × (0 < span_of load (flow_at load (p - back))) × (span_of load (flow_at load (p - back)) ≤ most)
+behind {load} release {times} {f} {p} {back} s some within e =
+    let before : p - back < p = omega arith in (
+      s.soon (p - back) before (twin_timed load release times p (p - back) e),
+      s.lasting (p - back) before,
+      s.loaded.spans (flow_at load (p - back)) (s.loaded.flows (p - back) (omega (arith, s.packet))),
+    )
 
 pub returns-then-back-lt1 : goal.returns-then-back-lt1
 unfolding resume_at
@@ -46,24 +61,15 @@ bounds-occupancy-other c = c.requires.loaded.flows (c.args.p - c.args.back) (ome
 pub overflow_add-start : goal.overflow_add-start
 unfolding flow_at span_of
 overflow_add-start c =
-    let a = c.args in
-    let s = c.requires in
-    let before : a.p - a.back < a.p = omega (arith, c.if-back-lt1.false, c.if-p-back.false) in
-    let timed = twin_timed (load_of a.flow.now a.occupancy.now a.lens.now a.links.now) a.release.now a.times.now a.p (a.p - a.back) (sym c.is_twin.ensures ∙ c.if-is_twin.true) in
-    let soon = s.soon (a.p - a.back) before timed in
-    let small = s.loaded.spans (flow_at (load_of a.flow.now a.occupancy.now a.lens.now a.links.now) (a.p - a.back)) (s.loaded.flows (a.p - a.back) (omega (arith, s.packet))) in
-    omega (arith, soon, small)
+    let twin = behind c.args.release.now c.requires c.if-back-lt1.false c.if-p-back.false (sym c.is_twin.ensures ∙ c.if-is_twin.true) in
+    omega (arith, twin)
 
 pub time_past-requires : goal.time_past-requires
 unfolding flow_at span_of
 time_past-requires c =
-    let a = c.args in
     let s = c.requires in
-    let before : a.p - a.back < a.p = omega (arith, c.if-back-lt1.false, c.if-p-back.false) in
-    let timed = twin_timed (load_of a.flow.now a.occupancy.now a.lens.now a.links.now) a.release.now a.times.now a.p (a.p - a.back) (sym c.is_twin.ensures ∙ c.if-is_twin.true) in
-    let soon = s.soon (a.p - a.back) before timed in
-    let small = s.loaded.spans (flow_at (load_of a.flow.now a.occupancy.now a.lens.now a.links.now) (a.p - a.back)) (s.loaded.flows (a.p - a.back) (omega (arith, s.packet))) in
-    record { before = omega (arith, s.lasting (a.p - a.back) before); soon = omega (arith, soon, small); some_step = s.some_step; small_step = s.small_step }
+    let twin = behind c.args.release.now s c.if-back-lt1.false c.if-p-back.false (sym c.is_twin.ensures ∙ c.if-is_twin.true) in
+    record { before = omega (arith, twin); soon = omega (arith, twin); some_step = s.some_step; small_step = s.small_step }
 
 pub returns-then-is_twin : goal.returns-then-is_twin
 unfolding resume_at flow_at span_of
