@@ -30,12 +30,12 @@ pub struct Swept {
 }
 
 // The first of the times t, t + F and so on that is at an end or past it. Every cycle is a time where the pruning factor is 1.
-#[tactic(auto, unfolding(crate::specs::Sweeps::time_past))]
 pub fn time_past(t: u32, end: u32, pruning: u32) -> u32
     requires { EndAhead t end pruning }
     ensures { result ≡ time_past t end pruning }
 {
-    if pruning == 1 {
+    let each_cycle = pruning == 1;
+    if each_cycle {
         return end;
     }
     t + (end - t + pruning - 1) / pruning * pruning

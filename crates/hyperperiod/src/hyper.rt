@@ -14,11 +14,11 @@ pub enum Hyper {
 }
 
 // The greatest common divisor; the remainder falls.
-#[tactic(auto, using(crate::proofs::Divisor::gcd_zero))]
 pub fn gcd(a: u32, b: u32) -> u32
     ensures { result ≡ gcd_of a b }
 {
-    if b == 0 { a } else { gcd(b, a % b) }
+    let none_left = b == 0;
+    if none_left { a } else { gcd(b, a % b) }
 }
 
 // The least common multiple of the periods, each 1 to the limit. It stops where the multiple passes the limit, so nothing wraps.

@@ -30,7 +30,6 @@ pub fn no_numbers() -> [u32; KEPT_NUMBERS]
 }
 
 // The numbers with a flow's own in their place; a flow past the most that are kept leaves them.
-#[tactic(auto, unfolding(crate::specs::Steps::stored_at))]
 fn stored(
     numbers: [u32; KEPT_NUMBERS],
     count: usize,
@@ -38,7 +37,8 @@ fn stored(
 ) -> [u32; KEPT_NUMBERS]
     ensures { result ≡ stored_at numbers count flow }
 {
-    if MOST_KEPT <= count {
+    let full = MOST_KEPT <= count;
+    if full {
         return numbers;
     }
     let mut next = numbers;

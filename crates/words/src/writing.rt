@@ -52,8 +52,8 @@ pub fn put_time(out: &mut [u8], at: usize, time: u32) -> usize
     ensures { Put 21 out.old out.new at (time_field time) result }
 {
     let next = put_byte(out, at, TAB);
-    let skipped = time == NO_TIME;
-    if skipped {
+    let absent = time == NO_TIME;
+    if absent {
         return put_word(out, next, &NONE);
     }
     put_number(out, next, time as u64)

@@ -72,13 +72,13 @@ overflow_mul-next c = omega (arith, (turn c).product)
 
 pub returns-then-next : goal.returns-then-next
 returns-then-next c =
-    let turn = turn_of _ _ _ _ _ c.requires c.loop-i.invariant c.loop-i-test.true c.gcd.ensures in
-    sym (part_above _ c.requires.low _ _ turn.fold c.if-next.true)
+    let known = turn_of _ _ _ _ _ c.requires c.loop-i.invariant c.loop-i-test.true c.gcd.ensures in
+    sym (part_above _ c.requires.low _ _ known.fold c.if-next.true)
 
 pub loop-i-preserved : goal.loop-i-preserved
 loop-i-preserved c =
-    let turn = turn_of _ _ _ _ _ c.requires c.loop-i.invariant c.loop-i-test.true c.gcd.ensures in
-    record { fold = turn.fold; low = turn.positive; high = search rules; within = search rules; whole = search rules }
+    let known = turn_of _ _ _ _ _ c.requires c.loop-i.invariant c.loop-i-test.true c.gcd.ensures in
+    record { fold = known.fold; low = known.positive; high = search rules; within = search rules; whole = search rules }
 
 pub returns : goal.returns
 returns c =

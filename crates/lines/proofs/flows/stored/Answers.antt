@@ -4,7 +4,7 @@ use mathlib.Core.List.{List}
 use Prim.Native.Nat.{ℕ, ◌+◌, ◌*◌, ◌≤◌, ◌<◌}
 use native.Mathlib.Numerals.{add-one}
 use native.Mathlib.Omega.{arith}
-use borrow.Author.Tests.{lt-ltb}
+use borrow.Author.Tests.{lt-ltb, le-ltb}
 use lib.ListN.{length, get_or, set}
 use lib.Seq.{paste, paste-zero, paste-suc}
 use Rattle.model.specs.Flows.{per_flow}
@@ -13,6 +13,11 @@ use Rattle.lines.specs.Steps.{stored_at}
 use borrow.Author.Rules.{rules}
 use Rattle.lines.proofs.flows.stored.Invariants.{Copied}
 use Rattle.lines.proofs.flows.stored.Goals as goal
+
+-- there is no room
+full : (count : ℕ) (flow numbers : List ℕ) → most_kept ≤ count → numbers ≡ stored_at numbers count flow
+unfolding stored_at
+full count flow numbers h = sym (rw (le-ltb count most_kept h))
 
 -- none stands there yet
 begins : (count : ℕ) (flow numbers : List ℕ) → count < most_kept → length flow ≡ per_flow → length numbers ≡ kept_numbers → Copied count flow numbers (per_flow * count) numbers 0
@@ -48,8 +53,11 @@ module _ (count : ℕ) (flow numbers : List ℕ) (at : ℕ) (next : List ℕ) (j
       rw (lt-ltb count most_kept s.room)
       (s.copied ∙ ap (λ (k : ℕ). paste numbers at flow k) all ∙ ap (λ (k : ℕ). paste numbers k flow per_flow) s.place)
 
+pub returns-then-full : goal.returns-then-full
+returns-then-full c = full _ _ _ c.if-full.true
+
 pub loop-j-init : goal.loop-j-init
-loop-j-init c = begins _ _ _ c.if-count-ge-MOST_KEPT.false (search rules) (search rules)
+loop-j-init c = begins _ _ _ c.if-full.false (search rules) (search rules)
 
 pub loop-j-preserved : goal.loop-j-preserved
 loop-j-preserved c = onward _ _ _ _ _ _ c.loop-j.invariant c.loop-j-test.true

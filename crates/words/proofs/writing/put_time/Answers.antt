@@ -21,12 +21,12 @@ placed : (time : ℕ) → (time ≡ none → ⊥) → tab ∷ decimal time ≡ t
 unfolding time_field
 placed time e = sym (rw (ne_eqb time none e))
 
-pub returns-then-skipped : goal.returns-then-skipped
-returns-then-skipped c =
-    put_as _ _ _ _ _ _ _ (skipped _ c.if-skipped.true)
+pub returns-then-absent : goal.returns-then-absent
+returns-then-absent c =
+    put_as _ _ _ _ _ _ _ (skipped _ c.if-absent.true)
     (put_within 5 21 _ _ _ _ _ (omega arith) (put_next 1 4 _ _ _ _ _ _ _ _ (omega (arith, c.requires)) c.put_byte-next.ensures c.put_word.ensures))
 
 pub returns : goal.returns
 returns c =
-    put_as _ _ _ _ _ _ _ (placed _ c.if-skipped.false)
+    put_as _ _ _ _ _ _ _ (placed _ c.if-absent.false)
     (put_next 1 20 _ _ _ _ _ _ _ _ c.requires c.put_byte-next.ensures c.put_number.ensures)
