@@ -85,7 +85,7 @@ module _ {columns source target : ℕ} (ends : Ends columns source target) {a b 
       )
 
   -- there is room for the last link
-  last_room : (l : ℕ) → length (l ∷ (along_row columns a b ++ along_column columns (corner a b) b)) < 32
+  pub last_room : (l : ℕ) → length (l ∷ (along_row columns a b ++ along_column columns (corner a b) b)) < 32
   last_room l = omega (arith, before_last l, apart_inside columns a b ends.few_columns a_inside b_inside, ends.few_columns)
 
   -- so the path has room for it
