@@ -2,4 +2,5 @@
 pub mod Bounds
 pub mod Determined
 pub mod Numbers
+pub mod SixKinds
 pub mod Steps

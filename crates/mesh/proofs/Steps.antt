@@ -1,22 +1,16 @@
--- Steps: what integers come to as natural numbers, how far on and how far back, and that small ones keep to their bits.
+-- Steps: what integers come to as natural numbers, how far on and how far back.
 use mathlib.Core.Path.{◌≡◌, refl, sym, ap, subst}
 use mathlib.Core.Bool.{Bool, true, false, cond}
 use Prim.Native.Nat.{ℕ, suc, ◌+◌, ◌-◌, ◌≤◌, ◌<◌}
-use native.Mathlib.Nat.{lt_of_le_of_lt, lt_of_lt_of_le}
 use native.Mathlib.Omega.{arith}
-use lib.Dec.{T, leb, ltb, le→leb, lit≤, lit<}
+use lib.Dec.{T, ltb, le→leb}
 use lib.IntN.{ℤ, pos, negsuc, nat_abs, ◌+ℤ◌}
 use lib.Signed.{non_neg, le_z, lt_z, le_z_yes, yes_non_neg, ◌≤ℤ◌}
-use mir.Syntax.{w64}
-use mir.Val.{SFits, to_z, of_z}
-use mir.Facts.{to_z-of_z}
-use borrow.Author.Tests.{leb-true, ltb-false, lt-ltb, le-leb, le-ltb}
+use borrow.Author.Tests.{ltb-false, lt-ltb, le-leb, le-ltb}
 use Rattle.basics.specs.Choose.{both}
-use Rattle.basics.specs.First.{first_from, first, some, every}
 use Rattle.basics.proofs.Choose.{both_pass}
-use Rattle.basics.proofs.First.{every_at}
 use Rattle.mesh.specs.Node.{Inside}
-use Rattle.mesh.specs.Link.{steps, step_of, to_column, to_row, end_of, stays}
+use Rattle.mesh.specs.Link.{step_of, to_column, to_row, end_of, stays}
 use Rattle.mesh.specs.declared.nodes.Place.{Place}
 
 -- ---- one step
@@ -30,11 +24,6 @@ ahead (negsuc n) = 0
 abbrev pub behind : ℤ → ℕ
 behind (pos n) = 0
 behind (negsuc n) = suc n
-
--- a step of one at most
-pub one_ahead : (z : ℤ) → nat_abs z ≤ 1 → ahead z ≤ 1
-one_ahead (pos n) h = h
-one_ahead (negsuc n) h = omega arith
 
 -- a step that goes back no further than 0 leads so far on and so far back
 pub step_to : (x : ℕ) (z : ℤ) → behind z ≤ x → pos x +ℤ z ≡ pos (x + ahead z - behind z)
@@ -54,17 +43,6 @@ back_within x (negsuc n) h = go (ltb x (suc n)) refl (yes_non_neg h)
 pub not_below : (x : ℕ) (z : ℤ) → behind z ≤ x → pos 0 ≤ℤ (pos x +ℤ z)
 not_below x z h = subst (λ (s : ℤ). pos 0 ≤ℤ s) (sym (step_to x z h)) (le_z_yes (le→leb 0 (x + ahead z - behind z) (omega arith)))
 
--- ---- bits
-
--- a small integer fits
-pub small_fits : (z : ℤ) → nat_abs z ≤ 16 → SFits w64 z
-small_fits (pos n) h = record { sfits = lt_of_le_of_lt h (lit< tt) }
-small_fits (negsuc n) h = record { sfits = lt_of_lt_of_le h (lit≤ tt) }
-
--- it is what is read from its bits
-pub small_read : (z : ℤ) → nat_abs z ≤ 16 → to_z w64 (of_z w64 z) ≡ z
-small_read z h = to_z-of_z (small_fits z h)
-
 -- ---- the steps of a kind
 
 -- how many columns on a kind goes
@@ -82,11 +60,6 @@ south kind = ahead (step_of kind).row
 -- how many rows back a kind goes
 abbrev pub north : ℕ → ℕ
 north kind = behind (step_of kind).row
-
--- a kind goes one column or one row at most
-pub step_small : (kind : ℕ) → kind < 6 → nat_abs (step_of kind).column + nat_abs (step_of kind).row ≤ 1
-unfolding first_from first some every steps step_of
-step_small kind h = leb-true _ 1 (every_at (λ k. leb (nat_abs (step_of k).column + nat_abs (step_of k).row) 1) 6 refl kind h)
 
 -- a link that goes back no further than column 0 ends so many columns on and back
 pub end_column : (kind : ℕ) (at : Place) → west kind ≤ at.column → (end_of kind at).column ≡ at.column + east kind - west kind

@@ -1,10 +1,21 @@
 -- Links: their numbers, the table of six kinds, where a link ends, and which links exist.
-use Rattle.std.specs.Prelude.{Bool, List, [], ◌∷◌, ℕ, ◌+◌, ◌*◌, ◌/◌, ◌%◌, ◌≤◌, ◌<◌, ltb, ℤ, pos, negsuc, nat_abs, ◌+ℤ◌, get_or, ◌≤ℤ◌}
+use Rattle.std.specs.Prelude.{Bool, List, [], ◌∷◌, ℕ, ◌+◌, ◌*◌, ◌/◌, ◌%◌, ◌<◌, ltb, ℤ, pos, negsuc, nat_abs, ◌+ℤ◌, get_or, ◌≤ℤ◌}
 use Rattle.std.specs.Int.Signed.{le_z, lt_z}
 use Rattle.basics.specs.Choose.{both}
 use Rattle.mesh.specs.Node.{place_of, node_at}
 use Rattle.mesh.specs.declared.nodes.Place.{Place}
 use Rattle.mesh.specs.declared.links.Step.{Step}
+use Rattle.mesh.specs.declared.links.Kind.{Kind}
+use Rattle.mesh.specs.declared.links.Kind.TheVariants.{LocalIn, LocalOut, NextColumn, ColumnBefore, NextRow, RowBefore}
+
+-- the number of each kind in the table
+abbrev pub number_of : Kind → ℕ
+number_of LocalIn = 0
+number_of LocalOut = 1
+number_of NextColumn = 2
+number_of ColumnBefore = 3
+number_of NextRow = 4
+number_of RowBefore = 5
 
 -- a link's number is 6 × its node + its kind
 unfoldable pub link_of : ℕ → ℕ → ℕ
@@ -76,15 +87,8 @@ unfoldable pub exists : ℕ → ℕ → ℕ → Bool
 exists columns rows link =
     both (ltb (node_of link) (columns * rows)) (stays columns rows (kind_of link) (place_of columns (node_of link)))
 
--- what adding a step asks: a column or row of a small mesh, a step of one at most, and a sum that is not below 0
-pub record Movable (x : ℕ) (by : ℤ) : Type 0 where
-  pub small : x < 16
-  pub one : nat_abs by ≤ 1
-  pub not_below : pos 0 ≤ℤ (pos x +ℤ by)
-
--- what finding a link's end asks: a kind, and a place of a small mesh from which the step does not lead below 0
+-- what finding a link's end asks: a place of a small mesh from which the step of the kind does not lead below 0
 pub record Inner (kind : ℕ) (at : Place) : Type 0 where
-  pub kind_in : kind < 6
   pub column_in : at.column < 16
   pub row_in : at.row < 16
   pub column_left : pos 0 ≤ℤ to_column kind at

@@ -4,5 +4,5 @@
 mod links;
 mod nodes;
 
-pub use links::{ALL_LINKS, end_of, link_of};
+pub use links::{ALL_LINKS, Kind, end_of, link_of};
 pub use nodes::{Place, distance, far, node_at, place_of};

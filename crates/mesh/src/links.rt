@@ -1,8 +1,25 @@
 // Links: their numbers, and the table of six kinds.
-ghost use Rattle.std.specs.Prelude.{◌≡◌, ◌<◌, pos, nat_abs, ◌+ℤ◌};
-ghost use Rattle.mesh.specs.Link.{link_of, step_of, end_of, Movable, Inner};
+ghost use Rattle.std.specs.Prelude.{◌≡◌, ◌<◌};
+ghost use Rattle.mesh.specs.Link.{number_of, link_of, step_of, end_of, Inner};
 
 use crate::nodes::Place;
+
+// The six kinds of link, in the order of the table.
+#[derive(Clone, Copy, PartialEq, Eq)]
+pub enum Kind {
+    // L-n: local into router n.
+    LocalIn,
+    // n-L: router n to local.
+    LocalOut,
+    // To the next column.
+    NextColumn,
+    // To the column before.
+    ColumnBefore,
+    // To the next row.
+    NextRow,
+    // To the row before.
+    RowBefore,
+}
 
 // The step of a kind: how many columns and how many rows it goes on.
 #[derive(Clone, Copy)]
@@ -11,7 +28,7 @@ pub struct Step {
     pub row: isize,
 }
 
-// The table of six kinds: L-n, n-L, to the next column, to the column before, to the next row, to the row before.
+// The table of six kinds, indexed by kind.
 const STEP: [Step; 6] = [
     Step { column: 0, row: 0 },
     Step { column: 0, row: 0 },
@@ -25,37 +42,28 @@ const STEP: [Step; 6] = [
 pub const ALL_LINKS: usize = 1536;
 
 // A link's number.
-pub fn link_of(node: usize, kind: usize) -> u16
-    requires { (node < 256) × (kind < 6) }
-    ensures { result ≡ link_of node kind }
+pub fn link_of(node: usize, kind: Kind) -> u16
+    requires { node < 256 }
+    ensures { result ≡ link_of node (number_of kind) }
 {
-    (6 * node + kind) as u16
+    (6 * node + kind as usize) as u16
 }
 
 // The step of a kind.
-fn step_of(kind: usize) -> Step
-    requires { kind < 6 }
-    ensures { result ≡ step_of kind }
+fn step_of(kind: Kind) -> Step
+    ensures { result ≡ step_of (number_of kind) }
 {
-    STEP[kind]
-}
-
-// A column or a row with a step added.
-fn moved(x: usize, by: isize) -> usize
-    requires { Movable x by }
-    ensures { result ≡ nat_abs (pos x +ℤ by) }
-{
-    (x as isize + by) as usize
+    STEP[kind as usize]
 }
 
 // The place at which a link of a kind ends that begins at a place.
-pub fn end_of(kind: usize, at: Place) -> Place
-    requires { Inner kind at }
-    ensures { result ≡ end_of kind at }
+pub fn end_of(kind: Kind, at: Place) -> Place
+    requires { Inner (number_of kind) at }
+    ensures { result ≡ end_of (number_of kind) at }
 {
     let step = step_of(kind);
     Place {
-        column: moved(at.column, step.column),
-        row: moved(at.row, step.row),
+        column: at.column.strict_add_signed(step.column),
+        row: at.row.strict_add_signed(step.row),
     }
 }

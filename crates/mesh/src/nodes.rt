@@ -3,7 +3,7 @@ ghost use Rattle.std.specs.Prelude.{◌≡◌, ◌<◌, ◌≤◌, ◌*◌};
 ghost use Rattle.mesh.specs.Node.{place_of, node_at, apart, distance_of, Ends};
 
 // A place in the mesh.
-#[derive(Clone, Copy)]
+#[derive(Clone, Copy, PartialEq, Eq)]
 pub struct Place {
     pub column: usize,
     pub row: usize,
@@ -32,7 +32,7 @@ pub fn node_at(columns: usize, at: Place) -> usize
 pub fn far(a: usize, b: usize) -> usize
     ensures { result ≡ apart a b }
 {
-    if a <= b { b - a } else { a - b }
+    a.abs_diff(b)
 }
 
 // The distance of two nodes: columns apart plus rows apart.

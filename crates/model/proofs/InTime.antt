@@ -121,7 +121,7 @@ path_high mesh numbers f fair nodes =
       source_in = omega (arith, nodes.source_in);
       target_in = omega (arith, nodes.target_in);
     } in
-    let short = last_room c s t ends a b refl refl (link_of s 0) in
+    let short = last_room ends {a = a} {b = b} refl refl (link_of s 0) in
     omega (arith, length-append row column, length-append row (column ++ end), length-append column end)
 
 module _ (mesh : Mesh) (numbers : List ℕ) (fair : Fair mesh numbers) where

@@ -1,20 +1,19 @@
 -- Laws of links in common: a path has a link exactly where one of its places holds it, and two paths share a link exactly
 -- where some link is on both. Then the same read off two paths by value, as the code compares them.
 use mathlib.Core.Path.{◌≡◌, refl, sym, ◌∙◌, ap, subst}
-use mathlib.Core.Bool.{true, false}
+use mathlib.Core.Bool.{Bool, true}
 use mathlib.Core.List.{List}
-use Prim.Native.Nat.{ℕ, ◌≤◌, ◌<◌}
-use native.Mathlib.Omega.{arith}
+use Prim.Native.Nat.{ℕ, ◌<◌}
 use lib.Dec.{eqb}
 use lib.ListN.{length, get_or}
-use lib.Seq.{length-take-le, get_or-take}
 use borrow.Author.Tests.{eqb-true, eq-eqb}
-use Rattle.basics.specs.First.{first}
+use Rattle.basics.specs.First.{first, some}
 use Rattle.basics.proofs.Choose.{same_test}
-use Rattle.basics.proofs.First.{some_at, some_none, some_first, first_passes}
-use Rattle.routes.specs.Route.{links_of}
+use Rattle.basics.proofs.First.{some_at, some_first, some_same, first_passes}
+use Rattle.std.specs.List.{list_any}
+use Rattle.std.proofs.lemmas.List.{get_or_default}
+use Rattle.std.proofs.lemmas.List.Folds.{list_any_at, Any-from_list_any}
 use Rattle.routes.specs.Share.{has, shares}
-use Rattle.routes.specs.declared.paths.Path.{Path}
 
 -- a link at some place of a path is on it
 pub has_at : (path : List ℕ) (link i : ℕ) → i < length path → get_or path i 0 ≡ link → has path link ≡ true
@@ -50,38 +49,29 @@ shares_swap a b = same_test (shares a b) (shares b a) (turn a b) (turn b a)
     turn : (a b : List ℕ) → shares a b ≡ true → shares b a ≡ true
     turn a b e = let l = shares_link a b e in shares_at b a l.0 l.2 l.1
 
--- ---- paths by value
+-- ---- as the library's `any` asks
 
--- a path by value: its array has 32 places, and its links are some of them
-pub record Whole (p : Path) : Type 0 where
-  pub array : length p.links ≡ 32
-  pub fits : p.len ≤ 32
+-- an element that it finds stands somewhere
+any_at : (p : ℕ → Bool) (xs : List ℕ) → list_any p xs ≡ true → (i : ℕ) × (i < length xs) × (p (get_or xs i 0) ≡ true)
+any_at p xs e =
+    let found = Any-from_list_any p xs e in
+    (found.0, found.2, ap p (get_or_default xs found.0 0 found.1 found.2 ∙ found.3) ∙ found.4)
 
--- a path lists as many links as it says
-pub links_length : (p : Path) → Whole p → length (links_of p) ≡ p.len
-unfolding links_of
-links_length p w = length-take-le p.len p.links (omega (arith, w.array, w.fits))
+-- it asks the same of a list as the test of some place of it
+any_some : (p : ℕ → Bool) (xs : List ℕ) → list_any p xs ≡ some (λ i. p (get_or xs i 0)) (length xs)
+any_some p xs = same_test (list_any p xs) (some (λ i. p (get_or xs i 0)) (length xs)) forth back
+  where
+    forth : list_any p xs ≡ true → some (λ i. p (get_or xs i 0)) (length xs) ≡ true
+    forth e = let at = any_at p xs e in some_at _ (length xs) at.0 at.1 at.2
 
--- the links that a path lists stand at the front of its array
-pub links_at : (p : Path) (i : ℕ) → i < p.len → get_or (links_of p) i 0 ≡ get_or p.links i 0
-unfolding links_of
-links_at p i h = get_or-take p.len p.links i 0 h
+    back : some (λ i. p (get_or xs i 0)) (length xs) ≡ true → list_any p xs ≡ true
+    back e =
+        let l = some_first _ (length xs) e in
+        list_any_at p xs (first (λ i. p (get_or xs i 0)) (length xs)) 0 l (first_passes (λ i. p (get_or xs i 0)) (length xs) l)
 
--- a link that stands among the links of the array is on the path
-pub has_array : (p : Path) → Whole p → (link i : ℕ) → i < p.len → get_or p.links i 0 ≡ link → has (links_of p) link ≡ true
-has_array p w link i h e = has_at (links_of p) link i (omega (arith, links_length p w)) (links_at p i h ∙ e)
-
--- a link that differs from each link of the array is not on the path
-pub has_none : (p : Path) → Whole p → (link : ℕ) → ((i : ℕ) → i < p.len → eqb (get_or p.links i 0) link ≡ false) → has (links_of p) link ≡ false
-unfolding has
-has_none p w link none = some_none _ _ (λ i h.
-    let l : i < p.len = omega (arith, links_length p w) in
-    ap (λ (x : ℕ). eqb x link) (links_at p i l) ∙ none i l)
-
--- two paths of which none of the first's links is on the second share no link
-pub shares_none : (p q : Path) → Whole p → ((i : ℕ) → i < p.len → has (links_of q) (get_or p.links i 0) ≡ false)
-    → shares (links_of p) (links_of q) ≡ false
-unfolding shares
-shares_none p q w none = some_none _ _ (λ i h.
-    let l : i < p.len = omega (arith, links_length p w) in
-    ap (has (links_of q)) (links_at p i l) ∙ none i l)
+-- some link of one path is some link of the other exactly where the two share a link
+pub any_shares : (a b : List ℕ) → list_any (λ x. list_any (λ y. eqb y x) b) a ≡ shares a b
+unfolding has shares
+any_shares a b =
+    any_some (λ x. list_any (λ y. eqb y x) b) a
+    ∙ some_same _ _ (length a) (λ i h. any_some (λ y. eqb y (get_or a i 0)) b)

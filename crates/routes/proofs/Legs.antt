@@ -110,9 +110,9 @@ unfolding path_of
 path_len p ls e = ap (λ (q : Path). q.len) e
 
 -- the first link on the empty path
-pub begun : (p : Path) (l : ℕ) → p ≡ pushed (record { links = replicate 32 0; len = 0 }) l → p ≡ path_of (l ∷ [])
+pub begun : {p : Path} (l : ℕ) → p ≡ pushed (record { links = replicate 32 0; len = 0 }) l → p ≡ path_of (l ∷ [])
 unfolding padded path_of
-begun p l e = e ∙ push_path [] l (omega arith)
+begun {p} l e = e ∙ push_path [] l (omega arith)
 
 -- one more link after those of a list
 pub grown : (p p' : Path) (ls : List ℕ) (l : ℕ) → p ≡ path_of ls → length ls < 32 → p' ≡ pushed p l → p' ≡ path_of (ls ++ (l ∷ []))

@@ -30,18 +30,18 @@ pub next_stays : (columns kind n i : ℕ) (at : Place) → i < n → Stays colum
 next_stays columns kind n i at h s = subst (λ (k : ℕ). Stays columns 16 kind k at) (left n i h) s
 
 -- what the next step asks
-pub next_inner : (columns kind n i : ℕ) (at : Place) → columns ≤ 16 → kind < 6 → i < n → Stays columns 16 kind (n - i) at → Inner kind at
-next_inner columns kind n i at few k h s =
+pub next_inner : (columns kind n i : ℕ) (at : Place) → columns ≤ 16 → i < n → Stays columns 16 kind (n - i) at → Inner kind at
+next_inner columns kind n i at few h s =
     let t = next_stays columns kind n i at h s in
-    record { kind_in = k; column_in = omega (arith, t.0.column_in); row_in = t.0.row_in; column_left = t.1; row_left = t.2 }
+    record { column_in = omega (arith, t.0.column_in); row_in = t.0.row_in; column_left = t.1; row_left = t.2 }
 
 -- a turn with the link of the place pushed and the place moved to that link's end
-pub next_walking : (columns kind n i : ℕ) (path₀ path path' : Path) (from at at' : Place) (node link : ℕ)
+pub next_walking : {columns kind n i : ℕ} {path₀ path path' : Path} {from at at' : Place} {node link : ℕ}
     → Walking columns kind n path₀ from path at i → i < n
     → node ≡ node_at columns at → link ≡ link_of node kind → path' ≡ pushed path link → at' ≡ end_of kind at
     → Walking columns kind n path₀ from path' at' (i + 1)
 unfolding pushed
-next_walking columns kind n i path₀ path path' from at at' node link w h en el ep ea = record {
+next_walking {columns} {kind} {n} {i} {path₀} {path} {path'} {from} {at} {at'} {node} {link} w h en el ep ea = record {
   same =
       ap₂ (λ (p : Path) (a : Place). walked p columns kind (n - (i + 1)) a)
       (ep ∙ ap (pushed path) (el ∙ ap (λ (k : ℕ). link_of k kind) en)) ea

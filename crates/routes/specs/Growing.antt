@@ -1,5 +1,5 @@
 -- How a path grows: by one link, and by n links of one kind.
-use Rattle.std.specs.Prelude.{ℕ, zero, suc, ◌+◌, ◌<◌, ◌≤◌, pos, set, ◌≤ℤ◌}
+use Rattle.std.specs.Prelude.{ℕ, zero, suc, ◌+◌, ◌≤◌, pos, set, ◌≤ℤ◌}
 use Rattle.mesh.specs.Node.{node_at, Inside}
 use Rattle.mesh.specs.Link.{link_of, to_column, to_row, end_of}
 use Rattle.mesh.specs.declared.nodes.Place.{Place}
@@ -20,9 +20,8 @@ Stays columns rows kind zero at = Inside columns rows at
 Stays columns rows kind (suc n) at =
     Inside columns rows at × (pos 0 ≤ℤ to_column kind at) × (pos 0 ≤ℤ to_row kind at) × Stays columns rows kind n (end_of kind at)
 
--- what a walk of n steps asks: a mesh of at most 16 columns and rows, a kind, room in the path, and steps that stay inside
+-- what a walk of n steps of a kind asks: a mesh of at most 16 columns and rows, room in the path, and steps that stay inside
 pub record Walkable (path : Path) (columns kind n : ℕ) (from : Place) : Type 0 where
   pub few_columns : columns ≤ 16
-  pub kind_in : kind < 6
   pub room : path.len + n ≤ 32
   pub inside : Stays columns 16 kind n from

@@ -1,51 +1,58 @@
 // Paths: XY from source to target, as an array of 32 link numbers by value beside its length.
-ghost use Rattle.std.specs.Prelude.{◌≡◌, ◌<◌};
-ghost use Rattle.routes.specs.Route.{towards, path_of, route_of};
+ghost use Rattle.std.specs.Prelude.{◌≡◌, ◌+◌, ◌<◌, ◌≤◌};
+ghost use Rattle.routes.specs.Route.{towards, links_of, path_of, route_of};
 ghost use Rattle.mesh.specs.Node.{Ends};
+ghost use Rattle.mesh.specs.Link.{number_of};
 ghost use Rattle.routes.specs.Growing.{pushed, walked, Walkable};
 
-use mesh::{Place, end_of, far, link_of, node_at, place_of};
+use mesh::{Kind, Place, end_of, far, link_of, node_at, place_of};
 
 // The links of a path: the first len of the array; what follows them is 0.
-#[derive(Clone, Copy)]
+#[derive(Clone, Copy, PartialEq, Eq)]
 pub struct Path {
     pub links: [u16; 32],
     pub len: usize,
 }
 
-// The path with one more link.
-fn push(path: Path, link: u16) -> Path
-    requires { path.len < 32 }
-    ensures { result ≡ pushed path link }
-{
-    let at = path.len;
-    let mut next = path;
-    next.links[at] = link;
-    next.len = at + 1;
-    next
-}
-
-// The kind that leads from a towards b: up by the kind itself, down by the kind after it.
-fn kind_towards(kind: usize, a: usize, b: usize) -> usize
-    requires { kind < 5 }
-    ensures { result ≡ towards kind a b }
-{
-    if a <= b { kind } else { kind + 1 }
-}
-
-// The path with n more links of one kind, from a place on.
-fn walk(path: Path, columns: usize, kind: usize, n: usize, from: Place) -> Path
-    requires { Walkable path columns kind n from }
-    ensures { result ≡ walked path columns kind n from }
-{
-    let mut next = path;
-    let mut at = from;
-    for i in 0..n {
-        let more = push(next, link_of(node_at(columns, at), kind));
-        next = more;
-        at = end_of(kind, at);
+impl Path {
+    // The links that the path lists.
+    #[tactic(auto, unfolding(crate::specs::Route::links_of))]
+    pub fn listed(&self) -> &[u16]
+        requires { self.now.len ≤ 32 }
+        ensures { result.now ≡ links_of self.now }
+    {
+        &self.links[..self.len]
     }
-    next
+
+    // Puts one more link on the path.
+    #[tactic(auto, unfolding(crate::specs::Growing::pushed))]
+    fn push(&mut self, link: u16)
+        requires { self.old.len < 32 }
+        ensures { self.new ≡ pushed self.old link }
+    {
+        self.links[self.len] = link;
+        self.len += 1;
+    }
+
+    // Puts n more links of one kind on the path, from a place on.
+    fn walk(&mut self, columns: usize, kind: Kind, n: usize, from: Place)
+        requires { Walkable self.old columns (number_of kind) n from }
+        ensures { self.new ≡ walked self.old columns (number_of kind) n from }
+    {
+        let mut at = from;
+        for _ in 0..n {
+            self.push(link_of(node_at(columns, at), kind));
+            at = end_of(kind, at);
+        }
+    }
+}
+
+// The kind that leads from a towards b: up by the first, down by the second, the kind after it.
+fn kind_towards(up: Kind, down: Kind, a: usize, b: usize) -> Kind
+    requires { number_of down ≡ number_of up + 1 }
+    ensures { number_of result ≡ towards (number_of up) a b }
+{
+    if a <= b { up } else { down }
 }
 
 // The XY path from source to target.
@@ -59,26 +66,15 @@ pub fn route(columns: usize, source: usize, target: usize) -> Path
         column: b.column,
         row: a.row,
     };
-    let start = push(
-        Path {
-            links: [0; 32],
-            len: 0,
-        },
-        link_of(source, 0),
-    );
-    let row = walk(
-        start,
-        columns,
-        kind_towards(2, a.column, b.column),
-        far(a.column, b.column),
-        a,
-    );
-    let column = walk(
-        row,
-        columns,
-        kind_towards(4, a.row, b.row),
-        far(a.row, b.row),
-        turn,
-    );
-    push(column, link_of(target, 1))
+    let along = kind_towards(Kind::NextColumn, Kind::ColumnBefore, a.column, b.column);
+    let across = kind_towards(Kind::NextRow, Kind::RowBefore, a.row, b.row);
+    let mut path = Path {
+        links: [0; 32],
+        len: 0,
+    };
+    path.push(link_of(source, Kind::LocalIn));
+    path.walk(columns, along, far(a.column, b.column), a);
+    path.walk(columns, across, far(a.row, b.row), turn);
+    path.push(link_of(target, Kind::LocalOut));
+    path
 }

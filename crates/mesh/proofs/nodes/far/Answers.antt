@@ -1,12 +1,22 @@
--- `far` takes the case of the definition that its test takes.
-use borrow.Author.Tests.{le-leb, lt-leb}
+-- `far` is the definition's case, whichever of the two is less.
+use mathlib.Core.Path.{◌≡◌, refl, ◌∙◌}
+use mathlib.Core.Bool.{Bool, true, false}
+use Prim.Native.Nat.{ℕ, ◌+◌, ◌-◌}
+use native.Mathlib.Omega.{arith}
+use lib.Dec.{leb}
+use borrow.Author.Tests.{leb-true, leb-false}
+use Rattle.basics.specs.Choose.{choose}
 use Rattle.mesh.specs.Node.{apart}
 use Rattle.mesh.proofs.nodes.far.Goals as goal
 
-pub returns-then-a-b : goal.returns-then-a-b
+-- one of the two differences is 0
+both_ways : (a b : ℕ) → (a - b) + (b - a) ≡ apart a b
 unfolding apart
-returns-then-a-b c = simp (le-leb _ _ c.if-a-b.true)
+both_ways a b = go (leb a b) refl
+  where
+    go : (t : Bool) → leb a b ≡ t → (a - b) + (b - a) ≡ choose t (b - a) (a - b)
+    go true e = omega (arith, leb-true a b e)
+    go false e = omega (arith, leb-false a b e)
 
-pub returns-else-a-b : goal.returns-else-a-b
-unfolding apart
-returns-else-a-b c = simp (lt-leb _ _ c.if-a-b.false)
+pub returns : goal.returns
+returns c = c.abs_diff.ensures ∙ both_ways c.args.a c.args.b

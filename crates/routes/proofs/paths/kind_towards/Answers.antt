@@ -9,4 +9,4 @@ returns-then-a-b c = simp (le-leb _ _ c.if-a-b.true)
 
 pub returns-else-a-b : goal.returns-else-a-b
 unfolding towards
-returns-else-a-b c = simp (lt-leb _ _ c.if-a-b.false)
+returns-else-a-b c = rw (lt-leb _ _ c.if-a-b.false) c.requires
