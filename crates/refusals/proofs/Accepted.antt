@@ -9,21 +9,19 @@ use native.Mathlib.Omega.{arith}
 use lib.Dec.{ltb}
 use borrow.Author.Tests.{ltb-true, ltb-false, lt-ltb, le-ltb}
 use Rattle.std.specs.Prelude.{Err, is_err}
-use Rattle.std.specs.Result.{result_and}
 use Rattle.basics.specs.Choose.{choose}
 use Rattle.basics.specs.First.{first}
 use Rattle.basics.proofs.First.{first_is, first_least, first_passes, first_none}
 use Rattle.hyperperiod.specs.Hyper.{most}
 use Rattle.model.specs.Flows.{flows_in}
 use Rattle.model.specs.Packets.{hyper_in, packets_in}
-use Rattle.limits.specs.Limits.{bad_list, bad_nodes, bad_times}
+use Rattle.limits.specs.Limits.{bad_nodes, bad_times}
 use Rattle.refusals.specs.Refusals.{bad_hyper, bad_packets, bad_flow, Tested, accepted, refuse_if, flow_refusal, flows_refusal, sums_refusal, refusal_of}
 use Rattle.model.specs.Fair.{FairMesh, FairList, Listed, Sized, Timed, FairFlow, Fair}
 use Rattle.model.specs.declared.flows.Mesh.{Mesh}
 use Rattle.model.specs.declared.answers.Refusal.{Refusal}
-use Rattle.model.specs.declared.answers.Refusal.TheVariants.{BadMesh, BadList, BadNodes, BadTimes, TooLong, LongHyper, ManyPackets}
+use Rattle.model.specs.declared.answers.Refusal.TheVariants.{LongHyper, ManyPackets}
 use Rattle.limits.proofs.Past.{mesh_fair, mesh_passes, list_fair, list_passes, nodes_fair, nodes_passes, times_fair, times_passes, long_fair, long_passes}
-use Rattle.refusals.proofs.Order.{refuse_none, refuse_not, refuse_by, and_none, not_refused}
 
 -- ---- a flow
 
@@ -34,15 +32,12 @@ listed_at mesh numbers f m l h = record { fair_mesh = m; few = omega arith; list
 module _ (mesh : Mesh) (numbers : List ℕ) (f : ℕ) where
   -- a flow that is not refused passes every test of its own
   pub flow_fair : flow_refusal mesh numbers f ≡ accepted → FairFlow mesh numbers f
-  unfolding flow_refusal
-  flow_fair e =
-      let first = and_none _ _ e in
-      let second = and_none _ _ first.1 in
-      record {
-        nodes = nodes_fair mesh numbers f (refuse_none _ (BadNodes f) first.0);
-        times = times_fair numbers f (refuse_none _ (BadTimes f) second.0);
-        fits = long_fair mesh numbers f (refuse_none _ (TooLong f) second.1);
-      }
+  unfolding flow_refusal refuse_if
+  flow_fair e = record {
+    nodes = nodes_fair mesh numbers f (grind arith);
+    times = times_fair numbers f (grind arith);
+    fits = long_fair mesh numbers f (grind arith);
+  }
 
   -- a flow past 5 and 6 is what the occupancy asks
   pub sized_past : Listed mesh numbers f → bad_nodes mesh numbers f ≡ false → bad_times numbers f ≡ false → Sized mesh numbers f
@@ -50,9 +45,8 @@ module _ (mesh : Mesh) (numbers : List ℕ) (f : ℕ) where
 
   -- a flow that passes every test of its own is not refused
   pub flow_passes : FairFlow mesh numbers f → flow_refusal mesh numbers f ≡ accepted
-  unfolding flow_refusal
-  flow_passes p =
-      rw (refuse_not _ (BadNodes f) (nodes_passes mesh numbers f p.nodes), refuse_not _ (BadTimes f) (times_passes numbers f p.times), refuse_not _ (TooLong f) (long_passes mesh numbers f p.fits))
+  unfolding flow_refusal refuse_if
+  flow_passes p = grind (arith, nodes_passes mesh numbers f p.nodes, times_passes numbers f p.times, long_passes mesh numbers f p.fits)
 
   -- a flow is good where it is not refused
   pub flow_good : flow_refusal mesh numbers f ≡ accepted → bad_flow mesh numbers f ≡ false
@@ -62,7 +56,7 @@ module _ (mesh : Mesh) (numbers : List ℕ) (f : ℕ) where
   -- and only there
   pub good_flow : bad_flow mesh numbers f ≡ false → flow_refusal mesh numbers f ≡ accepted
   unfolding bad_flow
-  good_flow e = not_refused _ e
+  good_flow e = grind arith
 
   -- a flow is bad where it is refused
   flow_bad : (r : Refusal) → flow_refusal mesh numbers f ≡ Err r → bad_flow mesh numbers f ≡ true
@@ -109,58 +103,55 @@ module _ (mesh : Mesh) (numbers : List ℕ) where
 
 -- past 8 and 9, H and the packets are within their limits
 pub sums_fair : (numbers : List ℕ) → sums_refusal numbers ≡ accepted → (hyper_in numbers ≤ most) × (packets_in numbers ≤ 1024)
-unfolding sums_refusal bad_hyper bad_packets
-sums_fair numbers e =
-    let both = and_none _ _ e in
-    (ltb-false _ _ (refuse_none _ LongHyper both.0), ltb-false _ _ (refuse_none _ ManyPackets both.1))
+unfolding sums_refusal bad_hyper bad_packets refuse_if
+sums_fair numbers e = (grind arith, grind arith)
 
 module _ (numbers : List ℕ) where
   -- an H above its limit is 8
   pub sums_hyper : most < hyper_in numbers → sums_refusal numbers ≡ Err LongHyper
-  unfolding sums_refusal bad_hyper
-  sums_hyper h = rw (refuse_by _ LongHyper (lt-ltb most (hyper_in numbers) h))
+  unfolding sums_refusal bad_hyper refuse_if
+  sums_hyper h = grind arith
 
   -- an H within its limit with too many packets is 9
   pub sums_packets : hyper_in numbers ≤ most → 1024 < packets_in numbers → sums_refusal numbers ≡ Err ManyPackets
-  unfolding sums_refusal bad_hyper bad_packets
-  sums_packets h k = rw (refuse_not _ LongHyper (le-ltb most (hyper_in numbers) h), refuse_by _ ManyPackets (lt-ltb 1024 (packets_in numbers) k))
+  unfolding sums_refusal bad_hyper bad_packets refuse_if
+  sums_packets h k = grind arith
 
   -- H and packets within their limits are not refused
   pub sums_passes : hyper_in numbers ≤ most → packets_in numbers ≤ 1024 → sums_refusal numbers ≡ accepted
-  unfolding sums_refusal bad_hyper bad_packets
-  sums_passes h k = rw (refuse_not _ LongHyper (le-ltb most (hyper_in numbers) h), refuse_not _ ManyPackets (le-ltb 1024 (packets_in numbers) k))
+  unfolding sums_refusal bad_hyper bad_packets refuse_if
+  sums_passes h k = grind arith
 
 -- ---- the whole
 
 module _ (mesh : Mesh) (between : Tested) (numbers : List ℕ) (e : refusal_of mesh between numbers ≡ accepted) where
-  -- where nothing refuses, nothing behind 2 does
-  after_mesh : result_and between (result_and (refuse_if (bad_list numbers) BadList) (result_and (flows_refusal mesh numbers) (sums_refusal numbers))) ≡ accepted
-  unfolding refusal_of
-  after_mesh = (and_none _ _ e).1
+  -- where nothing refuses, the flows and the sums do not
+  flows_none : flows_refusal mesh numbers ≡ accepted
+  unfolding refusal_of refuse_if
+  flows_none = grind arith
 
-  -- nor anything behind 4
-  after_list : result_and (flows_refusal mesh numbers) (sums_refusal numbers) ≡ accepted
-  after_list = (and_none _ _ (and_none _ _ after_mesh).1).1
+  sums_none : sums_refusal numbers ≡ accepted
+  unfolding refusal_of refuse_if
+  sums_none = grind arith
 
   -- a model that is not refused has every number in its range
   pub accepted_fair : Fair mesh numbers
-  unfolding refusal_of
-  accepted_fair =
-      let sums = sums_fair numbers (and_none _ _ after_list).1 in
-      record {
-        fair_mesh = mesh_fair mesh (refuse_none _ BadMesh (and_none _ _ e).0);
-        list = list_fair numbers (refuse_none _ BadList (and_none _ _ (and_none _ _ after_mesh).1).0);
-        flows = flows_fair mesh numbers (and_none _ _ after_list).0;
-        hyper_high = sums.0;
-        packets_high = sums.1;
-      }
+  unfolding refusal_of refuse_if
+  accepted_fair = record {
+    fair_mesh = mesh_fair mesh (grind arith);
+    list = list_fair numbers (grind arith);
+    flows = flows_fair mesh numbers flows_none;
+    hyper_high = (sums_fair numbers sums_none).0;
+    packets_high = (sums_fair numbers sums_none).1;
+  }
 
   -- nor did the caller refuse between 2 and 4
   pub accepted_between : between ≡ accepted
-  accepted_between = (and_none _ _ after_mesh).0
+  unfolding refusal_of refuse_if
+  accepted_between = grind arith
 
 -- a model with every number in its range is not refused
 pub fair_accepted : (mesh : Mesh) (numbers : List ℕ) → Fair mesh numbers → refusal_of mesh accepted numbers ≡ accepted
-unfolding refusal_of
+unfolding refusal_of refuse_if
 fair_accepted mesh numbers p =
-    rw (refuse_not _ BadMesh (mesh_passes mesh p.fair_mesh), refuse_not _ BadList (list_passes numbers p.list), flows_passes mesh numbers p.flows, sums_passes numbers p.hyper_high p.packets_high)
+    grind (arith, mesh_passes mesh p.fair_mesh, list_passes numbers p.list, flows_passes mesh numbers p.flows, sums_passes numbers p.hyper_high p.packets_high)

@@ -7,27 +7,26 @@ use Prim.Native.Nat.{ℕ, ◌≤◌, ◌<◌}
 use native.Mathlib.Omega.{arith}
 use lib.Dec.{ltb}
 use borrow.Author.Tests.{ltb-true}
-use Rattle.std.specs.Prelude.{Err}
+use Rattle.std.specs.Prelude.{Ok, Err}
 use Rattle.basics.specs.Choose.{choose}
 use Rattle.basics.specs.First.{first}
 use Rattle.basics.proofs.First.{first_least}
 use Rattle.model.specs.Flows.{flows_in}
 use Rattle.model.specs.Answers.{refusal_number, refusal_place}
-use Rattle.refusals.specs.Refusals.{Tested, bad_flow, accepted, flow_refusal, flows_refusal, sums_refusal, refusal_of}
+use Rattle.refusals.specs.Refusals.{Tested, bad_flow, accepted, refuse_if, flow_refusal, flows_refusal, sums_refusal, refusal_of}
 use Rattle.model.specs.Fair.{FairFlow}
 use Rattle.model.specs.declared.flows.Mesh.{Mesh}
 use Rattle.model.specs.declared.answers.Refusal.{Refusal}
-use Rattle.model.specs.declared.answers.Refusal.TheVariants.{BadMesh, BadList, BadNodes, BadTimes, TooLong, LongHyper, ManyPackets}
+use Rattle.model.specs.declared.answers.Refusal.TheVariants.{BadMesh, BadList, LongHyper, ManyPackets}
 use Rattle.refusals.proofs.Order.{refuse_holds, and_holds}
 use Rattle.refusals.proofs.Accepted.{flow_fair, good_flow}
 
--- flow f is refused by number n, 5 to 7, its own first test that passes, with f as the place; and every flow before it passes
-pub record Lowest (mesh : Mesh) (numbers : List ℕ) (f n : ℕ) (refusal : Refusal) : Type 0 where
+-- flow f is refused by 5, 6 or 7, its own first test that passes, with f as the place; and every flow before it passes
+pub record Lowest (mesh : Mesh) (numbers : List ℕ) (f : ℕ) (refusal : Refusal) : Type 0 where
   pub listed : f < flows_in numbers
-  pub low : 5 ≤ n
-  pub high : n ≤ 7
   pub own : flow_refusal mesh numbers f ≡ Err refusal
-  pub number : refusal_number refusal ≡ n
+  pub low : 5 ≤ refusal_number refusal
+  pub high : refusal_number refusal ≤ 7
   pub place : refusal_place refusal ≡ f
   pub before : (j : ℕ) → j < f → FairFlow mesh numbers j
 
@@ -37,24 +36,26 @@ pub data Given (mesh : Mesh) (between : Tested) (numbers : List ℕ) : Tested �
   bad_mesh_case : Given mesh between numbers (Err BadMesh)
   caller : Given mesh between numbers between
   bad_list_case : Given mesh between numbers (Err BadList)
-  flow : (f n : ℕ) (refusal : Refusal) → Lowest mesh numbers f n refusal → Given mesh between numbers (Err refusal)
+  flow : (f : ℕ) (refusal : Refusal) → Lowest mesh numbers f refusal → Given mesh between numbers (Err refusal)
   long_hyper : Given mesh between numbers (Err LongHyper)
   many_packets : Given mesh between numbers (Err ManyPackets)
 
 module _ (mesh : Mesh) (between : Tested) (numbers : List ℕ) where
+  -- the refusal of a flow is 5, 6 or 7, and its place is the flow
+  of_the_flow : (f : ℕ) (r : Refusal) → flow_refusal mesh numbers f ≡ Err r
+      → (5 ≤ refusal_number r) × (refusal_number r ≤ 7) × (refusal_place r ≡ f)
+  unfolding flow_refusal refuse_if refusal_number refusal_place
+  of_the_flow f r e = (grind arith, grind arith, grind arith)
+
   -- the first refused flow is given with its own refusal
   flow_given : (f : ℕ) → f < flows_in numbers → ((j : ℕ) → j < f → FairFlow mesh numbers j) → Given mesh between numbers (flow_refusal mesh numbers f)
-  unfolding flow_refusal refusal_number refusal_place
-  flow_given f h fair =
-      and_holds P _ _ (refuse_holds P _ (BadNodes f) (row 5 (BadNodes f) (omega arith) refl refl) (λ e. none))
-      (and_holds P _ _ (refuse_holds P _ (BadTimes f) (row 6 (BadTimes f) (omega arith) refl refl) (λ e. none)) (refuse_holds P _ (TooLong f) (row 7 (TooLong f) (omega arith) refl refl) (λ e. none)))
-      refl
+  flow_given f h fair = go (flow_refusal mesh numbers f) refl
     where
-      P : Tested → Type 0
-      P r = flow_refusal mesh numbers f ≡ r → Given mesh between numbers r
-
-      row : (n : ℕ) (r : Refusal) → (5 ≤ n) × (n ≤ 7) → refusal_number r ≡ n → refusal_place r ≡ f → P (Err r)
-      row n r b i l e = flow f n r (record { listed = h; low = b.0; high = b.1; own = e; number = i; place = l; before = fair })
+      go : (t : Tested) → flow_refusal mesh numbers f ≡ t → Given mesh between numbers t
+      go (Ok x) e = none
+      go (Err r) e =
+          let w = of_the_flow f r e in
+          flow f r (record { listed = h; own = e; low = w.0; high = w.1; place = w.2; before = fair })
 
   -- the flows together are refused by the lowest that is
   flows_given : Given mesh between numbers (flows_refusal mesh numbers)
