@@ -63,6 +63,6 @@ refused_by refusal = record {
 }
 
 -- the answer that was found, or that of the refusal
-unfoldable pub answer_by : Result Answer Refusal → Answer
+abbrev pub answer_by : Result Answer Refusal → Answer
 answer_by (Ok answer) = answer
 answer_by (Err refusal) = refused_by refusal

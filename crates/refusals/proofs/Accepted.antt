@@ -17,17 +17,13 @@ use Rattle.model.specs.Flows.{flows_in}
 use Rattle.model.specs.Packets.{hyper_in, packets_in}
 use Rattle.limits.specs.Limits.{bad_nodes, bad_times}
 use Rattle.refusals.specs.Refusals.{bad_hyper, bad_packets, bad_flow, Tested, accepted, refuse_if, flow_refusal, flows_refusal, sums_refusal, refusal_of}
-use Rattle.model.specs.Fair.{FairMesh, FairList, Listed, Sized, Timed, FairFlow, Fair}
+use Rattle.model.specs.Fair.{FairList, Listed, Sized, Timed, FairFlow, Fair}
 use Rattle.model.specs.declared.flows.Mesh.{Mesh}
 use Rattle.model.specs.declared.answers.Refusal.{Refusal}
 use Rattle.model.specs.declared.answers.Refusal.TheVariants.{LongHyper, ManyPackets}
 use Rattle.limits.proofs.Past.{mesh_fair, mesh_passes, list_fair, list_passes, nodes_fair, nodes_passes, times_fair, times_passes, long_fair, long_passes}
 
 -- ---- a flow
-
--- a flow of a list past 4 has its five numbers in it
-pub listed_at : (mesh : Mesh) (numbers : List ℕ) (f : ℕ) → FairMesh mesh → FairList numbers → f < flows_in numbers → Listed mesh numbers f
-listed_at mesh numbers f m l h = record { fair_mesh = m; few = omega arith; listed = omega arith }
 
 module _ (mesh : Mesh) (numbers : List ℕ) (f : ℕ) where
   -- a flow that is not refused passes every test of its own
