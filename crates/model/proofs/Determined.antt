@@ -4,6 +4,12 @@ use mathlib.Core.Path.{sym, ◌∙◌, ap}
 use Prim.Native.Nat.{ℕ}
 use Rattle.basics.proofs.Determined.{Determined}
 use Rattle.time.specs.declared.units.Cycles.{Cycles}
+use Rattle.model.proofs.answers.Refusal.number.Reads as number_reads
+use Rattle.model.proofs.answers.Refusal.number.Kinds as number_kinds
+use Rattle.model.proofs.answers.Refusal.place.Reads as place_reads
+use Rattle.model.proofs.answers.Refusal.place.Kinds as place_kinds
+use Rattle.model.proofs.answers.Refusal.other.Reads as other_reads
+use Rattle.model.proofs.answers.Refusal.other.Kinds as other_kinds
 use Rattle.model.proofs.answers.refused.Reads as refused
 use Rattle.model.proofs.answers.refused.Kinds as refused_kinds
 use Rattle.model.proofs.flows.number_of.Reads as number_of_lem
@@ -14,6 +20,18 @@ use Rattle.model.proofs.sums.hyper_in.Reads as hyper_in_reads
 use Rattle.model.proofs.sums.hyper_in.Kinds as hyper_in_kinds
 use Rattle.model.proofs.sums.packets_in.Reads as packets_in_reads
 use Rattle.model.proofs.sums.packets_in.Kinds as packets_in_kinds
+
+-- a refusal's number
+pub refusal_number_determined : Determined 0 number_kinds.ps number_kinds.r number_reads.Post
+refusal_number_determined κs a x y s t p q = p ∙ sym q
+
+-- its place
+pub refusal_place_determined : Determined 0 place_kinds.ps place_kinds.r place_reads.Post
+refusal_place_determined κs a x y s t p q = p ∙ sym q
+
+-- its other packet
+pub refusal_other_determined : Determined 0 other_kinds.ps other_kinds.r other_reads.Post
+refusal_other_determined κs a x y s t p q = p ∙ sym q
 
 -- the answer of a refusal
 pub refused_determined : Determined 0 refused_kinds.ps refused_kinds.r refused.Post
