@@ -15,6 +15,7 @@ use lib.ListN.{length, get_or, drop}
 use Rattle.std.proofs.lemmas.List.{at_drop_more}
 use Rattle.basics.specs.Choose.{both, either, choose}
 use Rattle.basics.proofs.Choose.{both_first, both_second, both_not}
+use Rattle.digits.proofs.Chosen.{chosen_none, chosen_some}
 use Rattle.digits.specs.Numbers.{is_digit, all_digits, no_leading_zero, is_formed, value_from, value_of, is_number, number_of}
 
 -- ---- the digits
@@ -121,21 +122,13 @@ number_formed digits most value field e v = rw (e, v) (go (leb value most))
 -- what is no number fails the test
 pub bad_number : (digits most : ℕ) (field : List ℕ) → number_of digits most field ≡ None → is_number digits most field ≡ false
 unfolding number_of
-bad_number digits most field = go (is_number digits most field)
-  where
-    go : (t : Bool) → choose t (Some (value_of field)) None ≡ None → t ≡ false
-    go true h = cc
-    go false h = refl
+bad_number digits most field = chosen_none (is_number digits most field) (value_of field)
 
 -- what is a number passes the test, and is its value
 pub good_number : (digits most value : ℕ) (field : List ℕ) → number_of digits most field ≡ Some value
     → (is_number digits most field ≡ true) × (value_of field ≡ value)
 unfolding number_of
-good_number digits most value field = go (is_number digits most field)
-  where
-    go : (t : Bool) → choose t (Some (value_of field)) None ≡ Some value → (t ≡ true) × (value_of field ≡ value)
-    go true h = (refl, cc)
-    go false h = cc
+good_number digits most value field = chosen_some (is_number digits most field) (value_of field) value
 
 -- a number is no more than the most
 pub number_most : (digits most value : ℕ) (field : List ℕ) → number_of digits most field ≡ Some value → value ≤ most

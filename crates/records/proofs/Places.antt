@@ -1,18 +1,20 @@
 -- Laws that join a text split at a byte to places in the text. In order: the place of a byte, as `position` finds it; then a split's first
 -- part and the parts behind it.
-use mathlib.Core.Path.{◌≡◌, refl, ◌∙◌, ap}
+use mathlib.Core.Path.{◌≡◌, refl, sym, ◌∙◌, ap}
 use mathlib.Core.Bool.{Bool, true, false, not}
 use mathlib.Core.List.{List, [], ◌∷◌}
 use Prim.Native.Nat.{ℕ, suc, ◌+◌, ◌≤◌, ◌<◌}
 use native.Mathlib.Numerals.{add-one}
 use native.Mathlib.Omega.{arith}
+use borrow.Author.Tests.{ltb-true, ltb-false}
 use lib.Dec.{eqb, ltb}
-use lib.ListN.{length, take, drop}
+use lib.ListN.{length, take, drop, length-drop}
 use lib.Seq.{drop-cons, drop-length}
 use Rattle.basics.specs.Choose.{choose}
 use Rattle.std.specs.Prelude.{Option, Some, None, cond, position}
 use Rattle.std.specs.List.{position_or_len}
 use Rattle.std.specs.Option.{option_map}
+use Rattle.digits.proofs.Chosen.{chosen_none, chosen_some}
 use Rattle.records.specs.Records.{onto, split_by, index_of, place_from}
 
 -- ---- the place of a byte
@@ -37,6 +39,19 @@ place_is b text from r e = ap (option_map (λ k. from + k)) e ∙ rw (index_is b
     go : (t : Bool) → option_map (λ k. from + k) (cond t (Some (index_of b (drop from text))) None) ≡ choose t (Some (from + index_of b (drop from text))) None
     go true = refl
     go false = refl
+
+-- there is none from a place on
+pub place_none : (b : ℕ) (text : List ℕ) (from : ℕ) → from ≤ length text → place_from b text from ≡ None → length text ≤ from + index_of b (drop from text)
+unfolding place_from
+place_none b text from h e =
+    omega (arith, ltb-false (index_of b (drop from text)) (length (drop from text)) (chosen_none _ _ e), length-drop from text)
+
+-- there is one
+pub place_some : (b : ℕ) (text : List ℕ) (from at : ℕ) → place_from b text from ≡ Some at → (at ≡ from + index_of b (drop from text)) × (at < length text)
+unfolding place_from
+place_some b text from at e =
+    let found = chosen_some _ _ _ e in
+    (sym found.1, omega (arith, ltb-true (index_of b (drop from text)) (length (drop from text)) found.0, found.1, length-drop from text))
 
 -- it is the length at most
 pub index_le : (b : ℕ) (xs : List ℕ) → index_of b xs ≤ length xs

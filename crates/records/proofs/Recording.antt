@@ -23,6 +23,7 @@ use Rattle.basics.specs.Lists.{padded}
 use Rattle.basics.proofs.Choose.{both_second}
 use Rattle.basics.proofs.Lists.{padded_push}
 use Rattle.digits.specs.Numbers.{is_number, value_of, number_of}
+use Rattle.digits.proofs.Chosen.{chosen_none, chosen_some}
 use Rattle.digits.proofs.Spelling.{bad_number, good_number}
 use Rattle.words.specs.Bytes.{tab, same_bytes}
 use Rattle.records.specs.Records.{onto, split_by, largest, are_numbers, fields_of, is_record, numbers_in, most_numbers, record_of}
@@ -214,6 +215,19 @@ module _ (word line : List ℕ) (n : ℕ) (rest : List (List ℕ)) (numbers : Li
               ∙ ap (λ (x : List (List ℕ)). s.done ++ map value_of x) (sym e)
               ∙ s.values;
         }
+
+-- ---- the whole line by what was read
+
+-- no record fails the test
+pub record_none : (word line : List ℕ) (n : ℕ) → record_of word n line ≡ None → is_record word n line ≡ false
+unfolding record_of
+record_none word line n = chosen_none (is_record word n line) (padded most_numbers 0 (numbers_in line))
+
+-- a record passes it, and has the line's numbers
+pub record_some : (word line : List ℕ) (n : ℕ) (numbers : List ℕ) → record_of word n line ≡ Some numbers
+    → (is_record word n line ≡ true) × (padded most_numbers 0 (numbers_in line) ≡ numbers)
+unfolding record_of
+record_some word line n numbers = chosen_some (is_record word n line) (padded most_numbers 0 (numbers_in line)) numbers
 
 -- ---- how many numbers a record has
 
