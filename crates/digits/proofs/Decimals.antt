@@ -13,8 +13,8 @@ use lib.ListN.{length, get_or, length-append, get_or-append}
 use Rattle.io.specs.Digits.{hex_digit_ascii, last_digits, IsDigitCount}
 use Rattle.basics.specs.Choose.{both}
 use Rattle.digits.specs.Numbers.{is_digit, all_digits, no_leading_zero, is_formed, value_from, value_of, number_of, decimal_within, decimal}
-use Rattle.digits.specs.declared.digits.Number.TheVariants.{Good}
-use Rattle.digits.proofs.Spelling.{within_digit, number_good}
+use Rattle.std.specs.Prelude.{Some}
+use Rattle.digits.proofs.Spelling.{within_digit, number_formed}
 
 -- ---- the digits by their steps
 
@@ -182,8 +182,8 @@ printed_formed most n h =
         positive (no l) b = omega (arith, lt_of_not-le l)
 
 -- a number printed reads back as itself
-pub reads_back : (most limit n : ℕ) → n ≤ limit → limit < 10 ^ suc most → number_of (suc most) limit (decimal n) ≡ Good n
+pub reads_back : (most limit n : ℕ) → n ≤ limit → limit < 10 ^ suc most → number_of (suc most) limit (decimal n) ≡ Some n
 unfolding decimal value_of
 reads_back most limit n h k =
-    number_good (suc most) limit n (decimal n) (printed_formed most n (omega arith))
-    (printed_value (suc n) n (omega (arith, above_exponent n, pow-succ' 10 n))) h
+    sym (number_formed (suc most) limit n (decimal n) (printed_formed most n (omega arith))
+    (printed_value (suc n) n (omega (arith, above_exponent n, pow-succ' 10 n)))) ∙ rw (le-leb n limit h)

@@ -1,68 +1,62 @@
--- Laws of a field as a number, as a loop over its bytes meets them. In order: when a field is formed and when not; a byte more
--- of the digits; the value so far and what follows from it; then `number_of` as the reader answers it.
-use mathlib.Core.Path.{◌≡◌, refl, sym, ◌∙◌, ap}
-use mathlib.Core.Bool.{Bool, true, false}
+-- Laws of a field as a number, as the code meets them. In order: the digits, as `all` tests them; when a field is formed and when not; a
+-- byte more of the digits and of the value; then `number_of` as the reader answers it.
+use mathlib.Core.Path.{◌≡◌, refl, sym, ◌∙◌}
+use mathlib.Core.Bool.{Bool, true, false, not, ◌&&◌}
 use mathlib.Core.List.{List, [], ◌∷◌}
 use Prim.Native.Nat.{ℕ, ◌+◌, ◌-◌, ◌*◌, ◌≤◌, ◌<◌}
-use native.Mathlib.Numerals.{add-one}
 use native.Mathlib.Omega.{arith}
-use borrow.Author.Tests.{le-leb, lt-leb, leb-true, eq-eqb, ne_eqb}
-use lib.Dec.{leb}
+use borrow.Author.Tests.{le-leb, lt-leb, leb-true, leb-false, eq-eqb, ne_eqb}
+use Rattle.std.specs.Prelude.{Some, None}
+use Rattle.std.specs.Bool.{then_some}
+use Rattle.std.specs.List.{list_all}
+use Rattle.std.specs.Char.{is_ascii_digit}
+use lib.Dec.{leb, eqb}
 use lib.ListN.{length, get_or, drop}
-use lib.Seq.{drop-cons, drop-length}
-use Rattle.basics.specs.Choose.{both}
+use Rattle.std.proofs.lemmas.List.{at_drop_more}
+use Rattle.basics.specs.Choose.{both, either, choose}
 use Rattle.basics.proofs.Choose.{both_first, both_second, both_not}
+use Rattle.digits.proofs.Chosen.{chosen_none, chosen_some}
 use Rattle.digits.specs.Numbers.{is_digit, all_digits, no_leading_zero, is_formed, value_from, value_of, is_number, number_of}
-use Rattle.digits.specs.declared.digits.Number.TheVariants.{Good, Bad}
+
+-- ---- the digits
+
+-- every byte is a digit, as `all` says it
+pub digits_all : (field : List ℕ) → list_all is_ascii_digit field ≡ all_digits field
+unfolding all_digits is_digit
+digits_all [] = refl
+digits_all (byte ∷ field) = rw (digits_all field) (go (leb 48 byte) (leb byte 57))
+  where
+    go : (a b : Bool) → (a && b) && all_digits field ≡ both (both a b) (all_digits field)
+    go true true = refl
+    go true false = refl
+    go false b = refl
 
 -- ---- `is_formed`
 
--- an empty field is no number
-pub formed_empty : (most : ℕ) (field : List ℕ) → length field < 1 → is_formed most field ≡ false
+-- a field of no digits or too many is not formed
+pub not_sized : (most : ℕ) (field : List ℕ) → (1 ≤ length field → length field ≤ most → ⊥) → is_formed most field ≡ false
 unfolding is_formed
-formed_empty most field h = rw (lt-leb 1 (length field) h)
+not_sized most field h = go (leb 1 (length field)) refl (leb (length field) most) refl
+  where
+    go : (a : Bool) → leb 1 (length field) ≡ a → (b : Bool) → leb (length field) most ≡ b → both (both a b) (both (no_leading_zero field) (all_digits field)) ≡ false
+    go true e true f = absurd (h (leb-true 1 (length field) e) (leb-true (length field) most f))
+    go true e false f = refl
+    go false e b f = refl
 
--- a field of too many digits is none
-pub formed_long : (most : ℕ) (field : List ℕ) → 1 ≤ length field → most < length field → is_formed most field ≡ false
-unfolding is_formed
-formed_long most field h k = rw (le-leb 1 (length field) h, lt-leb (length field) most k)
-
--- a field that begins with 0 and goes on is none
-pub formed_zero : (most : ℕ) (field : List ℕ) → 1 < length field → length field ≤ most → get_or field 0 0 ≡ 48 → is_formed most field ≡ false
+-- nor is one that begins with 0 and goes on
+pub zero_led : (most : ℕ) (field : List ℕ) → 1 < length field → get_or field 0 0 ≡ 48 → is_formed most field ≡ false
 unfolding is_formed no_leading_zero
-formed_zero most field h k e =
-    rw (le-leb 1 (length field) (omega arith), le-leb (length field) most k, lt-leb (length field) 1 h, eq-eqb (get_or field 0 0) 48 e)
+zero_led most field h e = rw (lt-leb (length field) 1 h, eq-eqb (get_or field 0 0) 48 e) (both_not (both (leb 1 (length field)) (leb (length field) most)) false refl)
 
--- a field of 1 digit is formed where its bytes are digits
-pub formed_one : (most : ℕ) (field : List ℕ) → 1 ≤ length field → length field ≤ most → length field ≤ 1 → is_formed most field ≡ all_digits field
-unfolding is_formed no_leading_zero
-formed_one most field h k l = rw (le-leb 1 (length field) h, le-leb (length field) most k, le-leb (length field) 1 l)
-
--- and so is a longer one that does not begin with 0
-pub formed_more : (most : ℕ) (field : List ℕ) → 1 < length field → length field ≤ most → (get_or field 0 0 ≡ 48 → ⊥)
+-- any other is where its bytes are digits
+pub well_led : (most : ℕ) (field : List ℕ) → 1 ≤ length field → length field ≤ most → (1 < length field → get_or field 0 0 ≡ 48 → ⊥)
     → is_formed most field ≡ all_digits field
 unfolding is_formed no_leading_zero
-formed_more most field h k e =
-    rw (le-leb 1 (length field) (omega arith), le-leb (length field) most k, lt-leb (length field) 1 h, ne_eqb (get_or field 0 0) 48 e)
-
--- the bytes of a formed field are digits
-pub formed_digits : (most : ℕ) (field : List ℕ) → is_formed most field ≡ true → all_digits field ≡ true
-unfolding is_formed
-formed_digits most field e =
-    both_second (no_leading_zero field) (all_digits field)
-    (both_second (both (leb 1 (length field)) (leb (length field) most)) (both (no_leading_zero field) (all_digits field)) e)
-
--- ---- a byte more of the digits
-
--- a byte below 0 is no digit
-pub below_digit : (byte : ℕ) → byte < 48 → is_digit byte ≡ false
-unfolding is_digit
-below_digit byte h = rw (lt-leb 48 byte h)
-
--- a byte above 9 is no digit
-pub above_digit : (byte : ℕ) → 48 ≤ byte → 57 < byte → is_digit byte ≡ false
-unfolding is_digit
-above_digit byte h k = rw (le-leb 48 byte h, lt-leb byte 57 k)
+well_led most field h k n = rw (le-leb 1 (length field) h, le-leb (length field) most k) (go (leb (length field) 1) refl)
+  where
+    go : (t : Bool) → leb (length field) 1 ≡ t → both (either t (not (eqb (get_or field 0 0) 48))) (all_digits field) ≡ all_digits field
+    go true e = refl
+    go false e = rw (ne_eqb (get_or field 0 0) 48 (n (leb-false (length field) 1 e)))
 
 -- a byte between is one
 pub within_digit : (byte : ℕ) → 48 ≤ byte → byte ≤ 57 → is_digit byte ≡ true
@@ -74,43 +68,28 @@ pub digit_low : (byte : ℕ) → is_digit byte ≡ true → 48 ≤ byte
 unfolding is_digit
 digit_low byte e = leb-true 48 byte (both_first (leb 48 byte) (leb byte 57) e)
 
-module _ (field : List ℕ) (i : ℕ) (h : i < length field) where
-  -- the digits from a place on are its byte and those behind it
-  pub digits_at : all_digits (drop i field) ≡ both (is_digit (get_or field i 0)) (all_digits (drop (i + 1) field))
-  unfolding all_digits
-  digits_at = rw (add-one, drop-cons field i 0)
+-- of a formed field the bytes are digits
+pub formed_digits : (most : ℕ) (field : List ℕ) → is_formed most field ≡ true → all_digits field ≡ true
+unfolding is_formed
+formed_digits most field e =
+    both_second (no_leading_zero field) (all_digits field)
+    (both_second (both (leb 1 (length field)) (leb (length field) most)) (both (no_leading_zero field) (all_digits field)) e)
 
-  -- a digit passed
-  pub digits_next : is_digit (get_or field i 0) ≡ true → all_digits (drop (i + 1) field) ≡ all_digits (drop i field)
-  digits_next e = sym (rw e at digits_at)
-
-  -- a byte that is no digit
-  pub digits_stop : is_digit (get_or field i 0) ≡ false → all_digits (drop i field) ≡ false
-  digits_stop e = rw e at digits_at
-
-  -- where all are digits, this one is, and those behind it are
-  pub digits_here : all_digits (drop i field) ≡ true → is_digit (get_or field i 0) ≡ true
-  digits_here e = both_first _ (all_digits (drop (i + 1) field)) (sym digits_at ∙ e)
-
-  pub digits_behind : all_digits (drop i field) ≡ true → all_digits (drop (i + 1) field) ≡ true
-  digits_behind e = both_second (is_digit (get_or field i 0)) _ (sym digits_at ∙ e)
-
-  -- the value with this byte more
-  pub value_next : (value : ℕ) → value_from value (drop i field) ≡ value_from (value * 10 + (get_or field i 0 - 48)) (drop (i + 1) field)
-  unfolding value_from
-  value_next value = rw (add-one, drop-cons field i 0)
-
--- past the end all are digits
-pub digits_end : (field : List ℕ) (i : ℕ) → i ≡ length field → all_digits (drop i field) ≡ true
-unfolding all_digits
-digits_end field i e = ap (λ (k : ℕ). all_digits (drop k field)) e ∙ ap all_digits (drop-length field)
-
--- past the end the value is whole
-pub value_end : (field : List ℕ) (i value : ℕ) → i ≡ length field → value_from value (drop i field) ≡ value
+-- the value with a byte more
+pub value_next : (field : List ℕ) (i value : ℕ) → i < length field
+    → value_from value (drop i field) ≡ value_from (value * 10 + (get_or field i 0 - 48)) (drop (i + 1) field)
 unfolding value_from
-value_end field i value e = ap (λ (k : ℕ). value_from value (drop k field)) e ∙ ap (value_from value) (drop-length field)
+value_next field i value h = at_drop_more (value_from value) field i 0 h
 
--- ---- the value and its limit
+-- where the bytes from a place on are digits, this one is, and those behind it are
+pub digits_next : (field : List ℕ) (i : ℕ) → i < length field → all_digits (drop i field) ≡ true
+    → (48 ≤ get_or field i 0) × (all_digits (drop (i + 1) field) ≡ true)
+unfolding all_digits
+digits_next field i h e =
+    let f : both (is_digit (get_or field i 0)) (all_digits (drop (i + 1) field)) ≡ true = sym (at_drop_more all_digits field i 0 h) ∙ e in (
+      digit_low (get_or field i 0) (both_first (is_digit (get_or field i 0)) (all_digits (drop (i + 1) field)) f),
+      both_second (is_digit (get_or field i 0)) (all_digits (drop (i + 1) field)) f,
+    )
 
 -- digits more make no smaller value
 pub value_grows : (value : ℕ) (field : List ℕ) → value ≤ value_from value field
@@ -121,43 +100,38 @@ value_grows value (byte ∷ field) = omega (arith, value_grows (value * 10 + (by
 -- ---- `number_of`
 
 -- a field that is not formed is no number
-pub not_formed : (digits most : ℕ) (field : List ℕ) → is_formed digits field ≡ false → number_of digits most field ≡ Bad
+pub not_formed : (digits most : ℕ) (field : List ℕ) → is_formed digits field ≡ false → number_of digits most field ≡ None
 unfolding number_of is_number
 not_formed digits most field e = rw e
 
 -- a value above the most is no number
-pub number_above : (digits most : ℕ) (field : List ℕ) → most < value_of field → number_of digits most field ≡ Bad
+pub number_above : (digits most : ℕ) (field : List ℕ) → most < value_of field → number_of digits most field ≡ None
 unfolding number_of is_number
 number_above digits most field h = rw (both_not (is_formed digits field) (leb (value_of field) most) (lt-leb (value_of field) most h))
 
--- a formed field of no more than the most is its value
-pub number_good : (digits most value : ℕ) (field : List ℕ) → is_formed digits field ≡ true → value_of field ≡ value → value ≤ most
-    → number_of digits most field ≡ Good value
+-- a formed field is its value where that is no more than the most
+pub number_formed : (digits most value : ℕ) (field : List ℕ) → is_formed digits field ≡ true → value_of field ≡ value
+    → then_some (leb value most) value ≡ number_of digits most field
 unfolding number_of is_number
-number_good digits most value field e v h = rw (e, v, le-leb value most h)
+number_formed digits most value field e v = rw (e, v) (go (leb value most))
+  where
+    go : (t : Bool) → then_some t value ≡ choose t (Some value) None
+    go true = refl
+    go false = refl
 
 -- what is no number fails the test
-pub bad_number : (digits most : ℕ) (field : List ℕ) → number_of digits most field ≡ Bad → is_number digits most field ≡ false
+pub bad_number : (digits most : ℕ) (field : List ℕ) → number_of digits most field ≡ None → is_number digits most field ≡ false
 unfolding number_of
-bad_number digits most field = go (is_number digits most field) refl
-  where
-    go : (t : Bool) → is_number digits most field ≡ t → number_of digits most field ≡ Bad → is_number digits most field ≡ false
-    go true e h = let z : Good (value_of field) ≡ Bad = rw e at h in let y : ◌≡◌ {A = ℕ} 0 1 = cc in absurd (omega arith)
-    go false e h = e
+bad_number digits most field = chosen_none (is_number digits most field) (value_of field)
 
 -- what is a number passes the test, and is its value
-pub good_number : (digits most value : ℕ) (field : List ℕ) → number_of digits most field ≡ Good value
+pub good_number : (digits most value : ℕ) (field : List ℕ) → number_of digits most field ≡ Some value
     → (is_number digits most field ≡ true) × (value_of field ≡ value)
 unfolding number_of
-good_number digits most value field = go (is_number digits most field) refl
-  where
-    go : (t : Bool) → is_number digits most field ≡ t → number_of digits most field ≡ Good value
-        → (is_number digits most field ≡ true) × (value_of field ≡ value)
-    go true e h = let z : Good (value_of field) ≡ Good value = rw e at h in (e, cc)
-    go false e h = let z : Bad ≡ Good value = rw e at h in let y : ◌≡◌ {A = ℕ} 0 1 = cc in absurd (omega arith)
+good_number digits most value field = chosen_some (is_number digits most field) (value_of field) value
 
 -- a number is no more than the most
-pub number_most : (digits most value : ℕ) (field : List ℕ) → number_of digits most field ≡ Good value → value ≤ most
+pub number_most : (digits most value : ℕ) (field : List ℕ) → number_of digits most field ≡ Some value → value ≤ most
 unfolding is_number
 number_most digits most value field h =
     let good = good_number digits most value field h in

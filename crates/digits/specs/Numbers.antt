@@ -1,8 +1,6 @@
 -- Numbers in digits: which fields are numbers, what they spell, and how a number is printed.
-use Rattle.std.specs.Prelude.{Bool, true, false, not, List, [], ◌∷◌, ◌++◌, ℕ, zero, suc, ◌+◌, ◌-◌, ◌*◌, ◌/◌, ◌%◌, leb, ltb, eqb, length, get_or}
+use Rattle.std.specs.Prelude.{Bool, true, false, not, List, [], ◌∷◌, ◌++◌, ℕ, zero, suc, ◌+◌, ◌-◌, ◌*◌, ◌/◌, ◌%◌, leb, ltb, eqb, length, get_or, Option, Some, None}
 use Rattle.basics.specs.Choose.{both, either, choose}
-use Rattle.digits.specs.declared.digits.Number.{Number}
-use Rattle.digits.specs.declared.digits.Number.TheVariants.{Good, Bad}
 
 -- ---- reading
 
@@ -37,8 +35,8 @@ unfoldable pub is_number : ℕ → ℕ → List ℕ → Bool
 is_number digits most field = both (is_formed digits field) (leb (value_of field) most)
 
 -- the number of a field, or that it is none
-unfoldable pub number_of : ℕ → ℕ → List ℕ → Number
-number_of digits most field = choose (is_number digits most field) (Good (value_of field)) Bad
+unfoldable pub number_of : ℕ → ℕ → List ℕ → Option ℕ
+number_of digits most field = choose (is_number digits most field) (Some (value_of field)) None
 
 -- ---- printing
 

@@ -3,4 +3,4 @@
 
 mod digits;
 
-pub use digits::{Number, read_number};
+pub use digits::read_number;

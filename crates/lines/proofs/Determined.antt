@@ -3,9 +3,6 @@ use mathlib.Core.Path.{◌≡◌, sym, ◌∙◌}
 use contract.Lifetimes.{Lfts}
 use denote.Triple.Clauses.{AtExit}
 use borrow.Fn.Kinds.{Dens, res_t, ended_of}
-use Rattle.basics.proofs.Determined.{Determined}
-use Rattle.lines.proofs.flows.no_numbers.Reads as no_numbers
-use Rattle.lines.proofs.flows.no_numbers.Kinds as no_numbers_kinds
 use Rattle.lines.proofs.flows.read_flows.Reads as read_flows
 use Rattle.lines.proofs.flows.read_flows.Kinds as read_flows_kinds
 use Rattle.lines.proofs.taking.read_line.Reads as read_line
@@ -19,10 +16,6 @@ pub read_line_determined : (κs λs : Lfts 2) (a : Dens κs read_line_kinds.ps) 
     → a.0.now ≡ b.0.now → a.1.0 ≡ b.1.0 → a.1.1.0.now ≡ b.1.1.0.now → a.1.1.1.0 ≡ b.1.1.1.0
     → read_line.Post κs a x s → read_line.Post λs b y t → x ≡ y
 read_line_determined κs λs a b x y s t text at word n p q = p ∙ (cc) ∙ sym q
-
--- an array with no numbers
-pub no_numbers_determined : Determined 0 no_numbers_kinds.ps no_numbers_kinds.r no_numbers.Post
-no_numbers_determined κs a x y s t p q = p ∙ sym q
 
 -- the flow lines from a place on, of any two texts that are the same
 pub read_flows_determined : (κs λs : Lfts 1) (a : Dens κs read_flows_kinds.ps) (b : Dens λs read_flows_kinds.ps)

@@ -5,10 +5,12 @@ use mathlib.Core.Bool.{Bool, true, false}
 use mathlib.Core.List.{List, [], ◌∷◌, ◌++◌, append_assoc, append-nil}
 use Prim.Native.Nat.{ℕ, suc, ◌+◌, ◌-◌, ◌*◌, ◌≤◌, ◌<◌}
 use native.Mathlib.Omega.{arith}
-use borrow.Author.Tests.{lt-ltb, ne_eqb, eqb-true}
+use borrow.Author.Tests.{lt-ltb, ne_eqb, eqb-true, eqb-false}
 use lib.Dec.{eqb}
 use lib.ListN.{length, drop, length-append, length-drop}
 use lib.Seq.{drop-length}
+use Rattle.std.specs.Prelude.{Result, Some, None, Ok, Err}
+use Rattle.basics.specs.Choose.{choose}
 use Rattle.basics.specs.Lists.{padded}
 use Rattle.model.specs.Flows.{per_flow}
 use Rattle.words.specs.Bytes.{bytes}
@@ -17,6 +19,8 @@ use Rattle.records.proofs.Recording.{record_count}
 use Rattle.lines.specs.Form.{limit, good_line, bad_line, parts_of, all_numbers, flows_kept}
 use Rattle.lines.specs.Steps.{line_from, feed_from, good_from, line_at, stored_at, flow_lines}
 use Rattle.lines.specs.declared.taking.Line.{Line}
+use Rattle.lines.specs.declared.flows.Lines.{Lines}
+use Rattle.lines.specs.declared.flows.BadLine.{BadLine}
 use Rattle.lines.proofs.TextLines.{line_ends, line_is, line_from_lem, parts_on, line_bad, line_good}
 use Rattle.lines.proofs.Keeping.{kept_more}
 
@@ -28,24 +32,40 @@ unfolding good_line
 flow_kind count line = rw (ne_eqb (count + 3) 1 (omega arith), ne_eqb (count + 3) 2 (omega arith))
 
 -- there is one
-flows_bad : (parts : List (List ℕ)) (n : ℕ) → 0 < n → bad_line 3 parts ≡ n → record { bad = n; numbers = flows_kept []; count = 0 } ≡ flow_lines parts
+flows_bad : (parts : List (List ℕ)) (n : ℕ) → 0 < n → bad_line 3 parts ≡ n → Err (record { line = n }) ≡ flow_lines parts
 unfolding flow_lines
 flows_bad parts n h e = sym (rw (e, ne_eqb n 0 (omega arith)))
 
 -- there is none
-pub flows_good : (parts : List (List ℕ)) → bad_line 3 parts ≡ 0
-    → record { bad = 0; numbers = flows_kept (all_numbers parts); count = length parts - 1 } ≡ flow_lines parts
+flows_good : (parts : List (List ℕ)) → bad_line 3 parts ≡ 0
+    → Ok (record { numbers = flows_kept (all_numbers parts); count = length parts - 1 }) ≡ flow_lines parts
 unfolding flow_lines
 flows_good parts e = sym (rw e)
 
 -- the answer says which
-pub flows_first : (parts : List (List ℕ)) → (flow_lines parts).bad ≡ bad_line 3 parts
+pub flows_err : (parts : List (List ℕ)) (bad : BadLine) → flow_lines parts ≡ Err bad → (bad_line 3 parts ≡ bad.line) × (0 < bad.line)
 unfolding flow_lines
-flows_first parts = go (eqb (bad_line 3 parts) 0) refl
+flows_err parts bad = go (eqb (bad_line 3 parts) 0) refl
   where
-    go : (t : Bool) → eqb (bad_line 3 parts) 0 ≡ t → (flow_lines parts).bad ≡ bad_line 3 parts
-    go true e = rw e (sym (eqb-true (bad_line 3 parts) 0 e))
-    go false e = rw e
+    go : (t : Bool) → eqb (bad_line 3 parts) 0 ≡ t
+        → choose {X = Result Lines BadLine} t (Ok (record { numbers = flows_kept (all_numbers parts); count = length parts - 1 })) (Err (record { line = bad_line 3 parts })) ≡ Err bad
+        → (bad_line 3 parts ≡ bad.line) × (0 < bad.line)
+    go true f e = let z : ◌≡◌ {A = ℕ} 0 1 = cc in absurd (omega arith)
+    go false f e =
+        let h : record { line = bad_line 3 parts } ≡ bad = cc in
+        let same = ap (λ (x : BadLine). x.line) h in
+        (same, omega (arith, eqb-false (bad_line 3 parts) 0 f, same))
+
+pub flows_ok : (parts : List (List ℕ)) (lines : Lines) → flow_lines parts ≡ Ok lines
+    → (bad_line 3 parts ≡ 0) × (record { numbers = flows_kept (all_numbers parts); count = length parts - 1 } ≡ lines)
+unfolding flow_lines
+flows_ok parts lines = go (eqb (bad_line 3 parts) 0) refl
+  where
+    go : (t : Bool) → eqb (bad_line 3 parts) 0 ≡ t
+        → choose {X = Result Lines BadLine} t (Ok (record { numbers = flows_kept (all_numbers parts); count = length parts - 1 })) (Err (record { line = bad_line 3 parts })) ≡ Ok lines
+        → (bad_line 3 parts ≡ 0) × (record { numbers = flows_kept (all_numbers parts); count = length parts - 1 } ≡ lines)
+    go true f e = (eqb-true (bad_line 3 parts) 0 f, cc)
+    go false f e = let z : ◌≡◌ {A = ℕ} 0 1 = cc in absurd (omega arith)
 
 -- ---- the loop
 
@@ -95,49 +115,47 @@ module _ (text : List ℕ) (from at count : ℕ) (numbers : List ℕ) (s : Flowi
       sym (append-nil s.done) ∙ ap (λ (l : List (List ℕ)). s.done ++ all_numbers l) (sym (flowing_last h)) ∙ s.values
 
   -- the text ends
-  pub flowing_ends : length text ≤ at → record { bad = 0; numbers = numbers; count = count } ≡ flow_lines (parts_of (drop from text))
+  pub flowing_ends : length text ≤ at → Ok (record { numbers = numbers; count = count }) ≡ flow_lines (parts_of (drop from text))
   flowing_ends h =
       let lines : count ≡ length (parts_of (drop from text)) - 1 = omega (arith, s.lines, ap length (flowing_last h)) in
-      ap (λ (l : List ℕ). record { bad = 0; numbers = l; count = count }) (s.array ∙ ap flows_kept (flowing_all h))
-      ∙ ap (λ (k : ℕ). record { bad = 0; numbers = flows_kept (all_numbers (parts_of (drop from text))); count = k }) lines
+      ap (λ (l : List ℕ). Ok (record { numbers = l; count = count })) (s.array ∙ ap flows_kept (flowing_all h))
+      ∙ ap (λ (k : ℕ). Ok (record { numbers = flows_kept (all_numbers (parts_of (drop from text))); count = k })) lines
       ∙ flows_good (parts_of (drop from text)) (flowing_none h)
 
-  module _ (h : at < length text) (r : Line) (e : r ≡ line_at (bytes "flow") per_flow text at) where
-    -- a bad line
-    pub flowing_bad : r.good ≡ false → (none : List ℕ) → none ≡ flows_kept []
-        → record { bad = count + 3; numbers = none; count = 0 } ≡ flow_lines (parts_of (drop from text))
-    flowing_bad g none z =
-        let some : eqb (length (drop at text)) 0 ≡ false = ne_eqb (length (drop at text)) 0 (omega (arith, length-drop at text)) in
-        ap (λ (l : List ℕ). record { bad = count + 3; numbers = l; count = 0 }) z
-        ∙ flows_bad (parts_of (drop from text)) (count + 3) (omega arith)
-        (sym s.bad ∙ line_bad (bytes "flow") text per_flow (count + 3) at (flow_kind count) r e s.within (rw some) g)
+  -- a bad line
+  pub flowing_bad : at < length text → line_at (bytes "flow") per_flow text at ≡ None → Err (record { line = count + 3 }) ≡ flow_lines (parts_of (drop from text))
+  flowing_bad h e =
+      let some : eqb (length (drop at text)) 0 ≡ false = ne_eqb (length (drop at text)) 0 (omega (arith, length-drop at text)) in
+      flows_bad (parts_of (drop from text)) (count + 3) (omega arith)
+      (sym s.bad ∙ line_bad (bytes "flow") text per_flow (count + 3) at (flow_kind count) s.within (rw some) e)
 
+  module _ (r : Line) (e : line_at (bytes "flow") per_flow text at ≡ Some r) where
     -- the place behind a good line
-    flowing_next : r.good ≡ true → r.next ≡ feed_from text at + 1
+    flowing_next : r.next ≡ feed_from text at + 1
     unfolding good_from
-    flowing_next g = ap (λ (x : Line). x.next) (line_from_lem (bytes "flow") text per_flow at r e g)
+    flowing_next = ap (λ (x : Line). x.next) (line_from_lem (bytes "flow") text per_flow at r e)
 
     -- less of the text is left behind it
-    pub flowing_less : r.good ≡ true → length text - r.next < length text - at
+    pub flowing_less : length text - r.next < length text - at
     unfolding feed_from
-    flowing_less g = omega (arith, flowing_next g, line_ends (bytes "flow") text per_flow at r e g)
+    flowing_less = omega (arith, flowing_next, line_ends (bytes "flow") text per_flow at r e)
 
     -- the numbers of a good line
-    flowing_numbers : r.good ≡ true → r.numbers ≡ numbers_in (line_from text at)
+    flowing_numbers : r.numbers ≡ numbers_in (line_from text at)
     unfolding good_from padded
-    flowing_numbers g =
-        ap (λ (x : Line). x.numbers) (line_from_lem (bytes "flow") text per_flow at r e g)
-        ∙ rw (record_count (bytes "flow") (line_from text at) per_flow (line_is (bytes "flow") text per_flow at r e g)) (append-nil (numbers_in (line_from text at)))
+    flowing_numbers =
+        ap (λ (x : Line). x.numbers) (line_from_lem (bytes "flow") text per_flow at r e)
+        ∙ rw (record_count (bytes "flow") (line_from text at) per_flow (line_is (bytes "flow") text per_flow at r e)) (append-nil (numbers_in (line_from text at)))
 
     -- a good line
-    pub flowing_on : r.good ≡ true → (stored : List ℕ) → stored ≡ stored_at numbers count r.numbers
+    pub flowing_on : (stored : List ℕ) → stored ≡ stored_at numbers count r.numbers
         → Flowing text from r.next (count + 1) stored
     unfolding all_numbers feed_from
-    flowing_on g stored f =
+    flowing_on stored f =
         let line = line_from text at in
-        let size : length (numbers_in line) ≡ per_flow = record_count (bytes "flow") line per_flow (line_is (bytes "flow") text per_flow at r e g) in
-        let ends = line_ends (bytes "flow") text per_flow at r e g in
-        let next = flowing_next g in
+        let size : length (numbers_in line) ≡ per_flow = record_count (bytes "flow") line per_flow (line_is (bytes "flow") text per_flow at r e) in
+        let ends = line_ends (bytes "flow") text per_flow at r e in
+        let next = flowing_next in
         let on : parts_of (drop at text) ≡ line ∷ parts_of (drop r.next text) =
         parts_on text at ends ∙ ap (λ (k : ℕ). line ∷ parts_of (drop k text)) (sym next) in
         record {
@@ -149,12 +167,12 @@ module _ (text : List ℕ) (from at count : ℕ) (numbers : List ℕ) (s : Flowi
           array =
               f
               ∙ ap (λ (l : List ℕ). stored_at l count r.numbers) s.array
-              ∙ ap (stored_at (flows_kept s.done) count) (flowing_numbers g)
+              ∙ ap (stored_at (flows_kept s.done) count) flowing_numbers
               ∙ kept_more s.done (numbers_in line) count s.size size;
           bad =
               ap (λ (k : ℕ). bad_line k (parts_of (drop r.next text))) (let k : count + 1 + 3 ≡ suc (count + 3) = omega arith in k)
               ∙ ap (λ (k : ℕ). bad_line (suc (count + 3)) (parts_of (drop k text))) next
-              ∙ sym (line_good (bytes "flow") text per_flow (count + 3) at (flow_kind count) r e g)
+              ∙ sym (line_good (bytes "flow") text per_flow (count + 3) at (flow_kind count) r e)
               ∙ s.bad;
           values =
               append_assoc s.done (numbers_in line) (all_numbers (parts_of (drop r.next text)))

@@ -9,97 +9,74 @@ use borrow.Author.Tests.{lt-ltb, le-ltb, ltb-true, ltb-false}
 use lib.Dec.{ltb, eqb}
 use lib.ListN.{length, take, drop, length-drop}
 use lib.Seq.{drop-drop, take_all}
+use Rattle.std.specs.Prelude.{Some, None}
 use Rattle.basics.specs.Choose.{both}
 use Rattle.basics.specs.Lists.{padded}
 use Rattle.basics.proofs.Choose.{both_not, both_first, both_second}
+use Rattle.digits.proofs.Chosen.{chosen_none, chosen_some}
 use Rattle.words.specs.Bytes.{feed}
-use Rattle.records.specs.Records.{index_of, is_record, numbers_in, most_numbers, good_record, bad_record, record_of}
-use Rattle.records.specs.declared.fields.Record.{Record}
-use Rattle.records.proofs.Places.{index_le, behind, split_at_first, behind_at, behind_end}
+use Rattle.records.specs.Records.{index_of, place_from, is_record, numbers_in, most_numbers, record_of}
+use Rattle.records.proofs.Places.{place_none, place_some, index_le, behind, split_at_first, behind_at, behind_end}
+use Rattle.records.proofs.Recording.{record_none, record_some}
 use Rattle.lines.specs.Form.{good_line, bad_line, parts_of}
-use Rattle.lines.specs.Steps.{line_from, feed_from, no_line, good_from, line_at}
+use Rattle.lines.specs.Steps.{line_from, feed_from, good_from, line_at}
 use Rattle.lines.specs.declared.taking.Line.{Line}
-
--- ---- a record by its fields
-
--- it is good where the line is one
-record_good : (word line : List ℕ) (n : ℕ) → (record_of word n line).good ≡ is_record word n line
-unfolding record_of good_record bad_record
-record_good word line n = go (is_record word n line) refl
-  where
-    go : (t : Bool) → is_record word n line ≡ t → (record_of word n line).good ≡ is_record word n line
-    go true e = rw e
-    go false e = rw e
-
--- a good one has the line's numbers
-record_numbers : (word line : List ℕ) (n : ℕ) → is_record word n line ≡ true → (record_of word n line).numbers ≡ padded most_numbers 0 (numbers_in line)
-unfolding record_of good_record
-record_numbers word line n e = rw e
 
 -- ---- the line at a place
 
-module _ (word text : List ℕ) (n at end : ℕ) (e : end ≡ at + index_of feed (drop at text)) where
-  -- the line is the slice up to its end
-  line_slice : take (end - at) (drop at text) ≡ line_from text at
-  unfolding line_from
-  line_slice = ap (λ (k : ℕ). take k (drop at text)) (let k : end - at ≡ index_of feed (drop at text) = omega arith in k)
-
+module _ (word text : List ℕ) (n at : ℕ) where
   -- no line feed ends it
-  pub line_unended : length text ≤ end → no_line ≡ line_at word n text at
+  pub line_unended : at ≤ length text → place_from feed text at ≡ None → None ≡ line_at word n text at
   unfolding line_at feed_from
-  line_unended h = sym (rw (← e, le-ltb end (length text) h))
+  line_unended h e = sym (rw (le-ltb (at + index_of feed (drop at text)) (length text) (place_none feed text at h e)))
 
-  module _ (r : Record) (f : r ≡ record_of word n (take (end - at) (drop at text))) where
-    is_record_lem : r.good ≡ is_record word n (line_from text at)
-    is_record_lem =
-        ap (λ (x : Record). x.good) f
-        ∙ record_good word (take (end - at) (drop at text)) n
-        ∙ ap (is_record word n) line_slice
+  module _ (end : ℕ) (e : place_from feed text at ≡ Some end) where
+    -- the line is the slice up to its end
+    line_slice : take (end - at) (drop at text) ≡ line_from text at
+    unfolding line_from
+    line_slice = ap (λ (k : ℕ). take k (drop at text)) (let k : end - at ≡ index_of feed (drop at text) = omega (arith, (place_some feed text at end e).0) in k)
 
     -- it is no record of the word
-    pub line_wrong : r.good ≡ false → no_line ≡ line_at word n text at
+    pub line_wrong : record_of word n (take (end - at) (drop at text)) ≡ None → None ≡ line_at word n text at
     unfolding line_at
-    line_wrong g =
-        sym (rw (both_not (ltb (feed_from text at) (length text)) (is_record word n (line_from text at)) (sym is_record_lem ∙ g)))
+    line_wrong f =
+        sym (rw (both_not (ltb (feed_from text at) (length text)) (is_record word n (line_from text at))
+        (ap (is_record word n) (sym line_slice) ∙ record_none word (take (end - at) (drop at text)) n f)))
 
     -- it is one
-    pub line_right : end < length text → r.good ≡ true → record { good = true; numbers = r.numbers; next = end + 1 } ≡ line_at word n text at
+    pub line_right : (numbers : List ℕ) → record_of word n (take (end - at) (drop at text)) ≡ Some numbers
+        → Some (record { numbers = numbers; next = end + 1 }) ≡ line_at word n text at
     unfolding line_at good_from feed_from
-    line_right h g =
-        let good = sym is_record_lem ∙ g in
-        let numbers : r.numbers ≡ padded most_numbers 0 (numbers_in (line_from text at)) =
-        ap (λ (x : Record). x.numbers) f
-        ∙ ap (λ (l : List ℕ). (record_of word n l).numbers) line_slice
-        ∙ record_numbers word (line_from text at) n good in
-        sym (rw (← e, lt-ltb end (length text) h, good) (sym (ap (λ (l : List ℕ). record { good = true; numbers = l; next = end + 1 }) numbers)))
+    line_right numbers f =
+        let place = place_some feed text at end e in
+        let good = record_some word (take (end - at) (drop at text)) n numbers f in
+        let passes : is_record word n (line_from text at) ≡ true = ap (is_record word n) (sym line_slice) ∙ good.0 in
+        let same : padded most_numbers 0 (numbers_in (line_from text at)) ≡ numbers = ap (λ (l : List ℕ). padded most_numbers 0 (numbers_in l)) (sym line_slice) ∙ good.1 in
+        sym (rw (← place.0, lt-ltb end (length text) place.1, passes, same))
 
 -- ---- what a line that `read_line` answers says
 
 module _ (word text : List ℕ) (n at : ℕ) where
-  -- it is good where a line feed ends it and it is a record
-  good_test : (line_at word n text at).good ≡ both (ltb (feed_from text at) (length text)) (is_record word n (line_from text at))
-  unfolding line_at good_from no_line
-  good_test = go (both (ltb (feed_from text at) (length text)) (is_record word n (line_from text at))) refl
-    where
-      go : (t : Bool) → both (ltb (feed_from text at) (length text)) (is_record word n (line_from text at)) ≡ t
-          → (line_at word n text at).good ≡ both (ltb (feed_from text at) (length text)) (is_record word n (line_from text at))
-      go true e = rw e
-      go false e = rw e
+  -- no good line: no line feed ends it, or it is no record
+  line_none : line_at word n text at ≡ None → both (ltb (feed_from text at) (length text)) (is_record word n (line_from text at)) ≡ false
+  unfolding line_at
+  line_none = chosen_none (both (ltb (feed_from text at) (length text)) (is_record word n (line_from text at))) (good_from text at)
 
   -- a good line ends within the text, is a record, and has its numbers
-  pub line_ends : (r : Line) → r ≡ line_at word n text at → r.good ≡ true → feed_from text at < length text
-  line_ends r e g =
-      ltb-true (feed_from text at) (length text)
-      (both_first (ltb (feed_from text at) (length text)) (is_record word n (line_from text at)) (sym good_test ∙ ap (λ (x : Line). x.good) (sym e) ∙ g))
-
-  pub line_is : (r : Line) → r ≡ line_at word n text at → r.good ≡ true → is_record word n (line_from text at) ≡ true
-  line_is r e g =
-      both_second (ltb (feed_from text at) (length text)) (is_record word n (line_from text at))
-      (sym good_test ∙ ap (λ (x : Line). x.good) (sym e) ∙ g)
-
-  pub line_from_lem : (r : Line) → r ≡ line_at word n text at → r.good ≡ true → r ≡ good_from text at
+  line_some : (r : Line) → line_at word n text at ≡ Some r
+      → (both (ltb (feed_from text at) (length text)) (is_record word n (line_from text at)) ≡ true) × (good_from text at ≡ r)
   unfolding line_at
-  line_from_lem r e g = e ∙ rw (sym good_test ∙ ap (λ (x : Line). x.good) (sym e) ∙ g)
+  line_some r = chosen_some (both (ltb (feed_from text at) (length text)) (is_record word n (line_from text at))) (good_from text at) r
+
+  pub line_ends : (r : Line) → line_at word n text at ≡ Some r → feed_from text at < length text
+  line_ends r e =
+      ltb-true (feed_from text at) (length text) (both_first (ltb (feed_from text at) (length text)) (is_record word n (line_from text at)) (line_some r e).0)
+
+  pub line_is : (r : Line) → line_at word n text at ≡ Some r → is_record word n (line_from text at) ≡ true
+  line_is r e = both_second (ltb (feed_from text at) (length text)) (is_record word n (line_from text at)) (line_some r e).0
+
+  pub line_from_lem : (r : Line) → line_at word n text at ≡ Some r → r ≡ good_from text at
+  line_from_lem r e = sym (line_some r e).1
 
 -- ---- the parts from a place on
 
@@ -140,23 +117,22 @@ unfolding bad_line
 bad_later n part text e = rw (parts_first text, e, bad_line)
 
 -- line n, whose kind is the record of a word and so many numbers
-module _ (word text : List ℕ) (m n at : ℕ) (kind : (line : List ℕ) → good_line n line ≡ is_record word m line) (r : Line) (e : r ≡ line_at word m text at) where
+module _ (word text : List ℕ) (m n at : ℕ) (kind : (line : List ℕ) → good_line n line ≡ is_record word m line) where
   -- a line that is not good is the first bad one, unless it is empty and may be absent
-  pub line_bad : at ≤ length text → both (eqb (length (drop at text)) 0) (ltb 2 n) ≡ false → r.good ≡ false → bad_line n (parts_of (drop at text)) ≡ n
+  pub line_bad : at ≤ length text → both (eqb (length (drop at text)) 0) (ltb 2 n) ≡ false → line_at word m text at ≡ None
+      → bad_line n (parts_of (drop at text)) ≡ n
   unfolding bad_line
-  line_bad h k g = go (ltb (feed_from text at) (length text)) refl
+  line_bad h k e = go (ltb (feed_from text at) (length text)) refl
     where
-      test : both (ltb (feed_from text at) (length text)) (is_record word m (line_from text at)) ≡ false
-      test = sym (good_test word text m at) ∙ ap (λ (x : Line). x.good) (sym e) ∙ g
-
       go : (t : Bool) → ltb (feed_from text at) (length text) ≡ t → bad_line n (parts_of (drop at text)) ≡ n
       go true f =
           ap (bad_line n) (parts_on text at (ltb-true (feed_from text at) (length text) f))
-          ∙ bad_here n (line_from text at) (drop (feed_from text at + 1) text) (kind (line_from text at) ∙ (rw f at test))
+          ∙ bad_here n (line_from text at) (drop (feed_from text at + 1) text) (kind (line_from text at) ∙ (rw f at (line_none word text m at e)))
       go false f = ap (bad_line n) (parts_last text at h (ltb-false (feed_from text at) (length text) f)) ∙ rw k
 
   -- behind a good line the first bad one is the same
-  pub line_good : r.good ≡ true → bad_line n (parts_of (drop at text)) ≡ bad_line (suc n) (parts_of (drop (feed_from text at + 1) text))
-  line_good g =
-      ap (bad_line n) (parts_on text at (line_ends word text m at r e g))
-      ∙ bad_later n (line_from text at) (drop (feed_from text at + 1) text) (kind (line_from text at) ∙ line_is word text m at r e g)
+  pub line_good : (r : Line) → line_at word m text at ≡ Some r
+      → bad_line n (parts_of (drop at text)) ≡ bad_line (suc n) (parts_of (drop (feed_from text at + 1) text))
+  line_good r e =
+      ap (bad_line n) (parts_on text at (line_ends word text m at r e))
+      ∙ bad_later n (line_from text at) (drop (feed_from text at + 1) text) (kind (line_from text at) ∙ line_is word text m at r e)

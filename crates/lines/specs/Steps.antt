@@ -1,5 +1,5 @@
 -- The reader's own steps, as its inner functions promise them: a line at a place of the text, a flow's numbers stored, the flow lines.
-use Rattle.std.specs.Prelude.{true, false, List, [], ℕ, ◌+◌, ◌-◌, ◌*◌, eqb, ltb, length, take, drop}
+use Rattle.std.specs.Prelude.{List, ℕ, ◌+◌, ◌-◌, ◌*◌, eqb, ltb, length, take, drop, Option, Some, None, Result, Ok, Err}
 use Rattle.std.proofs.Math.Seq.{paste}
 use Rattle.basics.specs.Choose.{both, choose}
 use Rattle.basics.specs.Lists.{padded}
@@ -9,6 +9,7 @@ use Rattle.records.specs.Records.{index_of, is_record, numbers_in, most_numbers}
 use Rattle.lines.specs.Form.{bad_line, all_numbers, most_kept, flows_kept}
 use Rattle.lines.specs.declared.taking.Line.{Line}
 use Rattle.lines.specs.declared.flows.Lines.{Lines}
+use Rattle.lines.specs.declared.flows.BadLine.{BadLine}
 
 -- the line at a place of the text, without its line feed
 unfoldable pub line_from : List ℕ → ℕ → List ℕ
@@ -18,25 +19,22 @@ line_from text at = take (index_of feed (drop at text)) (drop at text)
 unfoldable pub feed_from : List ℕ → ℕ → ℕ
 feed_from text at = at + index_of feed (drop at text)
 
--- no good line
-unfoldable pub no_line : Line
-no_line = record { good = false; numbers = padded most_numbers 0 []; next = 0 }
-
 -- a good line with its numbers, and the place behind it
 unfoldable pub good_from : List ℕ → ℕ → Line
-good_from text at = record { good = true; numbers = padded most_numbers 0 (numbers_in (line_from text at)); next = feed_from text at + 1 }
+good_from text at = record { numbers = padded most_numbers 0 (numbers_in (line_from text at)); next = feed_from text at + 1 }
 
 -- the line at a place, as the record of a word and so many numbers
-unfoldable pub line_at : List ℕ → ℕ → List ℕ → ℕ → Line
-line_at word n text at = choose (both (ltb (feed_from text at) (length text)) (is_record word n (line_from text at))) (good_from text at) no_line
+unfoldable pub line_at : List ℕ → ℕ → List ℕ → ℕ → Option Line
+line_at word n text at =
+    choose (both (ltb (feed_from text at) (length text)) (is_record word n (line_from text at))) (Some (good_from text at)) None
 
 -- the array with a flow's numbers in their place, as long as there is room for the flow
 unfoldable pub stored_at : List ℕ → ℕ → List ℕ → List ℕ
 stored_at numbers count flow = choose (ltb count most_kept) (paste numbers (per_flow * count) flow per_flow) numbers
 
--- the flow lines of a text from line 3 on: the first bad line, else 0, with their numbers and how many they are
-unfoldable pub flow_lines : List (List ℕ) → Lines
+-- the flow lines of a text from line 3 on: their numbers and how many they are, or the first bad line
+unfoldable pub flow_lines : List (List ℕ) → Result Lines BadLine
 flow_lines parts =
     choose (eqb (bad_line 3 parts) 0)
-    (record { bad = 0; numbers = flows_kept (all_numbers parts); count = length parts - 1 })
-    (record { bad = bad_line 3 parts; numbers = flows_kept []; count = 0 })
+    (Ok (record { numbers = flows_kept (all_numbers parts); count = length parts - 1 }))
+    (Err (record { line = bad_line 3 parts }))

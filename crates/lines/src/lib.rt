@@ -4,5 +4,5 @@
 mod flows;
 mod taking;
 
-pub use flows::{KEPT_NUMBERS, Lines, MOST_KEPT, no_numbers, read_flows};
+pub use flows::{BadLine, KEPT_NUMBERS, Lines, MOST_KEPT, read_flows};
 pub use taking::{Line, read_line};

@@ -1,44 +1,57 @@
--- Laws that join a text split at a byte to places in the text, as the code has them. In order: the place of a byte, as a search from
--- place to place finds it; two texts compared byte by byte; then a split's first part and the parts behind it.
+-- Laws that join a text split at a byte to places in the text. In order: the place of a byte, as `position` finds it; then a split's first
+-- part and the parts behind it.
 use mathlib.Core.Path.{◌≡◌, refl, sym, ◌∙◌, ap}
-use mathlib.Core.Bool.{Bool, true, false}
+use mathlib.Core.Bool.{Bool, true, false, not}
 use mathlib.Core.List.{List, [], ◌∷◌}
 use Prim.Native.Nat.{ℕ, suc, ◌+◌, ◌≤◌, ◌<◌}
 use native.Mathlib.Numerals.{add-one}
 use native.Mathlib.Omega.{arith}
-use borrow.Author.Tests.{eq-eqb, ne_eqb}
-use lib.Dec.{eqb}
-use lib.ListN.{length, get_or, take, drop, length-drop}
+use borrow.Author.Tests.{ltb-true, ltb-false}
+use lib.Dec.{eqb, ltb}
+use lib.ListN.{length, take, drop, length-drop}
 use lib.Seq.{drop-cons, drop-length}
-use Rattle.basics.specs.Choose.{both}
-use Rattle.words.specs.Bytes.{same_bytes}
-use Rattle.records.specs.Records.{onto, split_by, index_of}
+use Rattle.basics.specs.Choose.{choose}
+use Rattle.std.specs.Prelude.{Option, Some, None, cond, position}
+use Rattle.std.specs.List.{position_or_len}
+use Rattle.std.specs.Option.{option_map}
+use Rattle.digits.proofs.Chosen.{chosen_none, chosen_some}
+use Rattle.records.specs.Records.{onto, split_by, index_of, place_from}
 
 -- ---- the place of a byte
 
--- of a text that begins with it
-index_first : (b x : ℕ) (xs : List ℕ) → x ≡ b → index_of b (x ∷ xs) ≡ 0
+-- it is the place that `position` finds, or the length
+index_is : (b : ℕ) (xs : List ℕ) → position_or_len (λ x. eqb x b) xs ≡ index_of b xs
 unfolding index_of
-index_first b x xs e = rw (eq-eqb x b e, index_of)
+index_is b [] = refl
+index_is b (x ∷ xs) = go (eqb x b) (index_is b xs)
+  where
+    go : (t : Bool) → position_or_len (λ y. eqb y b) xs ≡ index_of b xs
+        → cond (not t) (1 + position_or_len (λ y. eqb y b) xs) 0 ≡ elim t [ true ↦ 0 | false ↦ suc (index_of b xs) ]
+    go true e = refl
+    go false e = omega (arith, e)
 
--- of a text that does not
-index_later : (b x : ℕ) (xs : List ℕ) → (x ≡ b → ⊥) → index_of b (x ∷ xs) ≡ suc (index_of b xs)
-unfolding index_of
-index_later b x xs e = rw (ne_eqb x b e, index_of)
+-- what `position` finds, from a place on
+pub place_is : (b : ℕ) (text : List ℕ) (from : ℕ) (r : Option ℕ) → r ≡ position (λ x. eqb x b) (drop from text)
+    → option_map (λ k. from + k) r ≡ place_from b text from
+unfolding place_from
+place_is b text from r e = ap (option_map (λ k. from + k)) e ∙ rw (index_is b (drop from text)) (go (ltb (index_of b (drop from text)) (length (drop from text))))
+  where
+    go : (t : Bool) → option_map (λ k. from + k) (cond t (Some (index_of b (drop from text))) None) ≡ choose t (Some (from + index_of b (drop from text))) None
+    go true = refl
+    go false = refl
 
-module _ (b : ℕ) (text : List ℕ) (i : ℕ) (h : i < length text) where
-  -- it stands here
-  pub index_here : get_or text i 0 ≡ b → index_of b (drop i text) ≡ 0
-  index_here e = rw (drop-cons text i 0) (index_first b (get_or text i 0) (drop (suc i) text) e)
+-- there is none from a place on
+pub place_none : (b : ℕ) (text : List ℕ) (from : ℕ) → from ≤ length text → place_from b text from ≡ None → length text ≤ from + index_of b (drop from text)
+unfolding place_from
+place_none b text from h e =
+    omega (arith, ltb-false (index_of b (drop from text)) (length (drop from text)) (chosen_none _ _ e), length-drop from text)
 
-  -- it stands further on
-  pub index_next : (get_or text i 0 ≡ b → ⊥) → index_of b (drop i text) ≡ suc (index_of b (drop (i + 1) text))
-  index_next e = rw (add-one, drop-cons text i 0) (index_later b (get_or text i 0) (drop (suc i) text) e)
-
--- it does not stand behind the end
-pub index_end : (b : ℕ) (text : List ℕ) (i : ℕ) → i ≡ length text → index_of b (drop i text) ≡ 0
-unfolding index_of
-index_end b text i e = ap (λ (k : ℕ). index_of b (drop k text)) e ∙ ap (index_of b) (drop-length text)
+-- there is one
+pub place_some : (b : ℕ) (text : List ℕ) (from at : ℕ) → place_from b text from ≡ Some at → (at ≡ from + index_of b (drop from text)) × (at < length text)
+unfolding place_from
+place_some b text from at e =
+    let found = chosen_some _ _ _ e in
+    (sym found.1, omega (arith, ltb-true (index_of b (drop from text)) (length (drop from text)) found.0, found.1, length-drop from text))
 
 -- it is the length at most
 pub index_le : (b : ℕ) (xs : List ℕ) → index_of b xs ≤ length xs
@@ -49,47 +62,6 @@ index_le b (x ∷ xs) = go (eqb x b) refl (index_le b xs)
     go : (t : Bool) → eqb x b ≡ t → index_of b xs ≤ length xs → index_of b (x ∷ xs) ≤ length (x ∷ xs)
     go true e h = rw (e, index_of) (omega arith)
     go false e h = rw (e, index_of) (omega arith)
-
--- from a place of the text it is the text's length at most
-pub index_within : (b : ℕ) (text : List ℕ) (i r : ℕ) → i ≤ length text → r ≡ i + index_of b (drop i text) → r ≤ length text
-index_within b text i r h e = omega (arith, index_le b (drop i text), length-drop i text)
-
--- ---- two texts compared
-
--- texts of different length are not the same
-pub same_unlike : (xs ys : List ℕ) → (length xs ≡ length ys → ⊥) → same_bytes xs ys ≡ false
-unfolding same_bytes
-same_unlike [] [] h = absurd (h refl)
-same_unlike [] (y ∷ ys) h = refl
-same_unlike (x ∷ xs) [] h = refl
-same_unlike (x ∷ xs) (y ∷ ys) h = go (eqb x y) (same_unlike xs ys (λ e. h (ap suc e)))
-  where
-    go : (t : Bool) → same_bytes xs ys ≡ false → both t (same_bytes xs ys) ≡ false
-    go true e = e
-    go false e = refl
-
-module _ (xs ys : List ℕ) (i : ℕ) (h : i < length xs) (k : i < length ys) where
-  -- two texts from a place on are the same where the bytes there are and those behind them
-  same_at : same_bytes (drop i xs) (drop i ys) ≡ both (eqb (get_or xs i 0) (get_or ys i 0)) (same_bytes (drop (i + 1) xs) (drop (i + 1) ys))
-  unfolding same_bytes
-  same_at = rw (add-one, drop-cons xs i 0, drop-cons ys i 0)
-
-  -- a byte that is the same
-  pub same_next : get_or xs i 0 ≡ get_or ys i 0 → same_bytes (drop (i + 1) xs) (drop (i + 1) ys) ≡ same_bytes (drop i xs) (drop i ys)
-  same_next e = sym (rw (eq-eqb (get_or xs i 0) (get_or ys i 0) e) at same_at)
-
-  -- a byte that is not
-  pub same_stop : (get_or xs i 0 ≡ get_or ys i 0 → ⊥) → same_bytes (drop i xs) (drop i ys) ≡ false
-  same_stop e = rw (ne_eqb (get_or xs i 0) (get_or ys i 0) e) at same_at
-
--- nothing is left of either
-pub same_end : (xs ys : List ℕ) (i : ℕ) → i ≡ length xs → length xs ≡ length ys → same_bytes (drop i xs) (drop i ys) ≡ true
-unfolding same_bytes
-same_end xs ys i e f =
-    ap (λ (k : ℕ). same_bytes (drop k xs) (drop i ys)) e
-    ∙ ap (λ (l : List ℕ). same_bytes l (drop i ys)) (drop-length xs)
-    ∙ ap (λ (k : ℕ). same_bytes [] (drop k ys)) (e ∙ f)
-    ∙ ap (same_bytes []) (drop-length ys)
 
 -- ---- a split's parts
 

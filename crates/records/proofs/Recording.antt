@@ -1,159 +1,233 @@
--- Laws of a line as a record, as a walk from field to field meets them. `Walked` is what the walk knows between two fields; then each
--- way on from it, or out of it. Last, how many numbers a record has.
-use mathlib.Core.Path.{◌≡◌, refl, sym, ◌∙◌, ap}
-use mathlib.Core.Bool.{true, false, false≢true}
+-- Laws of a line as a record, as the walk from field to field meets them. In order: the fields that are left, as `split` gives them; the
+-- word; `Walked`, which is what the walk knows between two fields, with each way on from it or out of it; and how many numbers a record has.
+use mathlib.Core.Path.{◌≡◌, refl, sym, ◌∙◌, ap, subst}
+use mathlib.Core.Bool.{Bool, true, false, false≢true, ◌&&◌}
 use mathlib.Core.List.{List, [], ◌∷◌, ◌++◌, map, tail, append_assoc, append-nil}
 use Prim.Native.Nat.{ℕ, zero, suc, ◌+◌, ◌-◌, ◌≤◌, ◌<◌}
 use native.Mathlib.Omega.{arith}
-use lib.ListN.{length, get_or, set, take, drop, length-append, length-map}
-use lib.Seq.{drop-drop}
+use denote.Param.Members.{Mut}
+use denote.Ref.{Bor}
+use lib.Dec.{eqb}
+use lib.Pointwise.{pointwise}
+use lib.ListN.{length, get_or, set, take, drop, replicate, length-append, length-map}
+use Rattle.std.specs.Prelude.{Some, None, cond}
+use Rattle.std.specs.Bool.{MatchBool}
+use Rattle.std.specs.Fn.{ComputesKey, CalledAt}
+use Rattle.std.specs.List.{All, slice_split, onto_first, IsFirstMatchOrLen}
+use Rattle.std.proofs.lemmas.Fn.{always_returns_same}
+use Rattle.std.proofs.lemmas.Grind.{common_steps}
+use Rattle.std.proofs.lemmas.List.{take-replicate, drop-replicate}
+use Rattle.std.proofs.lemmas.List.Splits.{slice_split_none, slice_split_at}
 use Rattle.basics.specs.Choose.{both}
 use Rattle.basics.specs.Lists.{padded}
 use Rattle.basics.proofs.Choose.{both_second}
 use Rattle.basics.proofs.Lists.{padded_push}
 use Rattle.digits.specs.Numbers.{is_number, value_of, number_of}
-use Rattle.digits.specs.declared.digits.Number.TheVariants.{Good, Bad}
+use Rattle.digits.proofs.Chosen.{chosen_none, chosen_some}
 use Rattle.digits.proofs.Spelling.{bad_number, good_number}
 use Rattle.words.specs.Bytes.{tab, same_bytes}
-use Rattle.records.specs.Records.{index_of, largest, are_numbers, fields_of, is_record, numbers_in, most_numbers, good_record, bad_record, record_of}
-use Rattle.records.proofs.Places.{behind, split_at_first, behind_at, behind_end}
+use Rattle.records.specs.Records.{onto, split_by, largest, are_numbers, fields_of, is_record, numbers_in, most_numbers, record_of}
+use Rattle.records.proofs.Places.{split_at_first}
+
+-- ---- the fields that are left
+
+-- of what is left of a line, unless its last field is taken
+unfoldable pub left : Bool → List ℕ → List (List ℕ)
+left done rest = cond done [] (split_by tab rest)
+
+-- a byte in front of the first part, as `split` has it
+onto_is : (x : ℕ) (parts : List (List ℕ)) → onto x parts ≡ onto_first x parts
+unfolding onto
+onto_is x [] = refl
+onto_is x (part ∷ parts) = refl
+
+-- a text split at a byte, as `split` gives it
+split_is : (b : ℕ) (xs : List ℕ) → split_by b xs ≡ slice_split (λ x. eqb x b) xs
+unfolding split_by
+split_is b [] = refl
+split_is b (x ∷ xs) = go (eqb x b) (split_is b xs)
+  where
+    go : (t : Bool) → split_by b xs ≡ slice_split (λ y. eqb y b) xs
+        → elim t [ true ↦ [] ∷ split_by b xs | false ↦ onto x (split_by b xs) ]
+        ≡ cond t ([] ∷ slice_split (λ y. eqb y b) xs) (onto_first x (slice_split (λ y. eqb y b) xs))
+    go true e = ap (λ (l : List (List ℕ)). [] ∷ l) e
+    go false e = ap (onto x) e ∙ onto_is x (slice_split (λ y. eqb y b) xs)
+
+-- the test that `split` runs at each byte
+abbrev pub at_tab : ℕ → Bool
+at_tab b = eqb b tab
+
+-- a closure that tests for a tab computes that test
+pub computes : {F : Type 0} (g : Mut F (Bor ℕ × Unit {0}) Bool) (f : F) → ((x : ℕ) (r : Bool) (q : F) → CalledAt g f x r q → (q ≡ f) × (r ≡ at_tab x))
+    → ComputesKey g at_tab f
+computes g f tests =
+    always_returns_same g (λ a r. r ≡ at_tab a.0.now) f
+    (λ a r q k. let m = tests a.0.now r q (record { shown = a.0; shows = refl; called = k }) in (m.1, m.0))
+
+-- a field taken is the first of those left, and the others are left
+pub left_next : (before : Bool) (rest field on : List ℕ) (done : Bool) → before ≡ false
+    → MatchBool done (rest ≡ field) ((y : ℕ) × (rest ≡ field ++ (y ∷ on))) → IsFirstMatchOrLen at_tab rest (length field)
+    → left before rest ≡ field ∷ left done on
+unfolding left
+left_next before rest field on true b e h =
+    rw b
+    (split_is tab rest ∙ ap (slice_split at_tab) e
+    ∙ slice_split_none at_tab field (λ k d l. subst (λ ys. at_tab (get_or ys k d) ≡ false) e (h.0 k d (omega arith) l)))
+left_next before rest field on false b e h =
+    let front : All (λ z. at_tab z ≡ false) field = λ k d l. let a = h.0 k d (omega arith) l in let b = e.1 in grind (arith, common_steps) in
+    let hit : at_tab e.0 ≡ true = let b = e.1 in let a = h.1 (grind (arith, common_steps)) e.0 in grind (arith, common_steps) in
+    rw b
+    (split_is tab rest ∙ ap (slice_split at_tab) e.1 ∙ slice_split_at at_tab field e.0 on front hit
+    ∙ ap (λ (l : List (List ℕ)). field ∷ l) (sym (split_is tab on)))
+
+-- none is left where the last is taken, else one is
+pub left_none : (done : Bool) (rest : List ℕ) → done ≡ true → left done rest ≡ []
+unfolding left
+left_none done rest e = rw e
+
+pub left_some : (done : Bool) (rest : List ℕ) → done ≡ false → left done rest ≡ [] → ⊥
+unfolding left
+left_some done rest e f = let g : split_by tab rest ≡ [] = rw e at f in let h = sym (split_at_first tab rest) ∙ g in cc
 
 -- ---- the whole line by its test
 
--- a line that fails is a bad record
-not_record : (word line : List ℕ) (n : ℕ) → is_record word n line ≡ false → bad_record ≡ record_of word n line
+-- a line that fails is no record
+not_record : (word line : List ℕ) (n : ℕ) → is_record word n line ≡ false → None ≡ record_of word n line
 unfolding record_of
 not_record word line n e = sym (rw e)
 
 -- a line that passes is a record with its numbers
-a_record : (word line : List ℕ) (n : ℕ) → is_record word n line ≡ true → good_record (numbers_in line) ≡ record_of word n line
+a_record : (word line : List ℕ) (n : ℕ) → is_record word n line ≡ true → Some (padded most_numbers 0 (numbers_in line)) ≡ record_of word n line
 unfolding record_of
 a_record word line n e = sym (rw e)
 
+-- ---- the walk
+
+-- i numbers are read, and stand in the array; the fields that are left decide, and hold the other numbers
+pub record Walked (word line : List ℕ) (n : ℕ) (rest : List (List ℕ)) (numbers : List ℕ) (i : ℕ) : Type 0 where
+  pub within : i ≤ n
+  pub done : List ℕ
+  pub count : length done ≡ i
+  pub array : numbers ≡ padded n 0 done
+  pub test : are_numbers (n - i) rest ≡ is_record word n line
+  pub values : done ++ map value_of rest ≡ numbers_in line
+
 -- ---- the word
 
-module _ (word line : List ℕ) (n end : ℕ) (e : end ≡ 0 + index_of tab line) where
-  -- the fields are what stands before the first tab, and those behind it
-  fields_are : fields_of line ≡ take end line ∷ behind tab (drop end line)
-  unfolding fields_of
-  fields_are =
-      split_at_first tab line ∙ ap (λ (k : ℕ). take k line ∷ behind tab (drop k line)) (let k : index_of tab line ≡ end = omega arith in k)
+-- two texts are the same, as `==` tests it
+same_is : (xs ys : List ℕ) → same_bytes xs ys ≡ pointwise eqb xs ys
+unfolding same_bytes
+same_is [] [] = refl
+same_is [] (y ∷ ys) = refl
+same_is (x ∷ xs) [] = refl
+same_is (x ∷ xs) (y ∷ ys) = go (eqb x y) (same_is xs ys)
+  where
+    go : (t : Bool) → same_bytes xs ys ≡ pointwise eqb xs ys → both t (same_bytes xs ys) ≡ (t && pointwise eqb xs ys)
+    go true e = e
+    go false e = refl
+
+module _ (word line field text : List ℕ) (n : ℕ) (rest : List (List ℕ)) (before : Bool) (begun : before ≡ false) (same : text ≡ line)
+    (e : left before text ≡ field ∷ rest) where
+  -- the fields of the line
+  fields_are : fields_of line ≡ field ∷ rest
+  unfolding fields_of left
+  fields_are = ap (split_by tab) (sym same) ∙ (rw begun at e)
 
   -- another word
-  pub wrong_word : same_bytes (take end line) word ≡ false → bad_record ≡ record_of word n line
+  pub wrong_word : pointwise eqb field word ≡ false → None ≡ record_of word n line
   unfolding is_record
-  wrong_word w = not_record word line n (rw (fields_are, w))
+  wrong_word w = not_record word line n (rw (fields_are, same_is field word ∙ w))
 
-  right_word : same_bytes (take end line) word ≡ true → are_numbers n (behind tab (drop end line)) ≡ is_record word n line
-  unfolding is_record
-  right_word w = sym (rw (fields_are, w))
-
-  numbers_are : map value_of (behind tab (drop end line)) ≡ numbers_in line
-  unfolding numbers_in
-  numbers_are = sym (rw fields_are)
+  -- the word, and no number is read
+  pub walk_begins : n ≤ most_numbers → pointwise eqb field word ≡ true → Walked word line n rest (take n (replicate most_numbers 0)) 0
+  unfolding is_record numbers_in padded
+  walk_begins h w = record {
+    within = omega arith;
+    done = [];
+    count = refl;
+    array = take-replicate n most_numbers 0 h ∙ ap (λ (m : ℕ). replicate {A = ℕ} m 0) (let m : n ≡ n - 0 = omega arith in m);
+    test = ap (λ (m : ℕ). are_numbers m rest) (let m : n - 0 ≡ n = omega arith in m) ∙ sym (rw (fields_are, same_is field word ∙ w));
+    values = sym (rw fields_are);
+  }
 
 -- ---- the numbers
 
--- i numbers are read, and stand in the array; the fields from `end` on decide, and hold the other numbers
-pub record Walked (word line : List ℕ) (n end : ℕ) (numbers : List ℕ) (i : ℕ) : Type 0 where
-  pub within : i ≤ n
-  pub most : n ≤ most_numbers
-  pub place : end ≤ length line
-  pub done : List ℕ
-  pub count : length done ≡ i
-  pub array : numbers ≡ padded most_numbers 0 done
-  pub test : are_numbers (n - i) (behind tab (drop end line)) ≡ is_record word n line
-  pub values : done ++ map value_of (behind tab (drop end line)) ≡ numbers_in line
-
--- behind the word
-pub walk_begins : (word line : List ℕ) (n end : ℕ) → n ≤ most_numbers → end ≤ length line → end ≡ 0 + index_of tab line
-    → same_bytes (take end line) word ≡ true → Walked word line n end (padded most_numbers 0 []) 0
-walk_begins word line n end h k e w = record {
-  within = omega arith;
-  most = h;
-  place = k;
-  done = [];
-  count = refl;
-  array = refl;
-  test = ap (λ (m : ℕ). are_numbers m (behind tab (drop end line))) (let m : n - 0 ≡ n = omega arith in m) ∙ right_word word line n end e w;
-  values = numbers_are word line n end e;
-}
-
-module _ (word line : List ℕ) (n end : ℕ) (numbers : List ℕ) (i : ℕ) (s : Walked word line n end numbers i) where
+module _ (word line : List ℕ) (n : ℕ) (rest : List (List ℕ)) (numbers : List ℕ) (i : ℕ) (s : Walked word line n rest numbers i) where
   -- a field is missing
-  pub walk_short : i < n → length line ≤ end → bad_record ≡ record_of word n line
+  pub walk_short : i < n → rest ≡ [] → None ≡ record_of word n line
   unfolding are_numbers
-  walk_short h k =
+  walk_short h e =
       let more : n - i ≡ suc (n - (i + 1)) = omega arith in
-      not_record word line n (sym s.test ∙ rw (more, behind_end tab line end (omega (arith, s.place))))
+      not_record word line n (sym s.test ∙ rw (more, e))
 
   -- there is a field too many
-  pub walk_long : n ≤ i → end < length line → bad_record ≡ record_of word n line
+  pub walk_long : n ≤ i → (rest ≡ [] → ⊥) → None ≡ record_of word n line
   unfolding are_numbers
-  walk_long h k =
+  walk_long h some =
       let none : n - i ≡ 0 = omega arith in
-      not_record word line n
-      (sym s.test ∙ rw (none, behind_at tab line end, split_at_first tab (drop (end + 1) line)))
+      not_record word line n (sym s.test ∙ rw none (go rest some))
+    where
+      go : (l : List (List ℕ)) → (l ≡ [] → ⊥) → are_numbers 0 l ≡ false
+      go [] h = absurd (h refl)
+      go (field ∷ l) h = refl
 
   -- the line ends behind its last number
-  pub walk_ends : n ≤ i → length line ≤ end → good_record s.done ≡ record_of word n line
-  unfolding are_numbers
-  walk_ends h k =
+  pub walk_ends : n ≤ most_numbers → n ≤ i → rest ≡ [] → Some (numbers ++ drop n (replicate most_numbers 0)) ≡ record_of word n line
+  unfolding are_numbers padded
+  walk_ends m h e =
       let none : n - i ≡ 0 = omega arith in
-      let last = behind_end tab line end (omega (arith, s.place)) in
-      ap good_record (sym (append-nil s.done) ∙ ap (λ (l : List (List ℕ)). s.done ++ map value_of l) (sym last) ∙ s.values)
-      ∙ a_record word line n (sym s.test ∙ rw (none, last))
+      let full : length s.done ≡ n = omega (arith, s.count, s.within) in
+      let whole : s.done ≡ numbers_in line = sym (append-nil s.done) ∙ ap (λ (l : List (List ℕ)). s.done ++ map value_of l) (sym e) ∙ s.values in
+      let front : numbers ≡ s.done = s.array ∙ ap (λ (k : ℕ). s.done ++ replicate {A = ℕ} k 0) (let k : n - length s.done ≡ 0 = omega arith in k) ∙ append-nil s.done in
+      ap (λ (l : List ℕ). Some (l ++ drop n (replicate most_numbers 0))) front
+      ∙ ap (λ (l : List ℕ). Some (s.done ++ l)) (drop-replicate n most_numbers 0)
+      ∙ ap (λ (k : ℕ). Some (s.done ++ replicate {A = ℕ} (most_numbers - k) 0)) (sym full)
+      ∙ ap (λ (l : List ℕ). Some (padded most_numbers 0 l)) whole
+      ∙ a_record word line n (sym s.test ∙ rw (none, e))
 
-  module _ (h : i < n) (k : end < length line) (next : ℕ) (e : next ≡ end + 1 + index_of tab (drop (end + 1) line)) where
-    -- the field behind this tab
-    here : List ℕ
-    here = take (next - (end + 1)) (drop (end + 1) line)
-
-    -- it is the next field, and the others stand behind it
-    fields_on : behind tab (drop end line) ≡ here ∷ behind tab (drop next line)
-    unfolding here
-    fields_on =
-        let size : index_of tab (drop (end + 1) line) ≡ next - (end + 1) = omega arith in
-        behind_at tab line end k
-        ∙ split_at_first tab (drop (end + 1) line)
-        ∙ ap (λ (l : List ℕ). take (index_of tab (drop (end + 1) line)) (drop (end + 1) line) ∷ behind tab l)
-        (drop-drop (index_of tab (drop (end + 1) line)) (end + 1) line ∙ ap (λ (m : ℕ). drop m line) (sym e))
-        ∙ ap (λ (m : ℕ). take m (drop (end + 1) line) ∷ behind tab (drop next line)) size
-
-    one_more : are_numbers (n - i) (behind tab (drop end line)) ≡ both (is_number 10 largest here) (are_numbers (n - (i + 1)) (behind tab (drop next line)))
+  module _ (h : i < n) (field : List ℕ) (on : List (List ℕ)) (e : rest ≡ field ∷ on) where
+    one_more : are_numbers (n - i) rest ≡ both (is_number 10 largest field) (are_numbers (n - (i + 1)) on)
     unfolding are_numbers
     one_more =
-        ap (λ (m : ℕ). are_numbers m (behind tab (drop end line))) (let m : n - i ≡ suc (n - (i + 1)) = omega arith in m)
-        ∙ ap (are_numbers (suc (n - (i + 1)))) fields_on
+        let more : n - i ≡ suc (n - (i + 1)) = omega arith in
+        rw (more, e)
 
-    -- it is no number
-    pub walk_bad : number_of 10 largest (take (next - (end + 1)) (drop (end + 1) line)) ≡ Bad → bad_record ≡ record_of word n line
-    unfolding here
-    walk_bad b = not_record word line n (sym s.test ∙ one_more ∙ rw (bad_number 10 largest here b))
+    -- the next field is no number
+    pub walk_bad : number_of 10 largest field ≡ None → None ≡ record_of word n line
+    walk_bad b = not_record word line n (sym s.test ∙ one_more ∙ rw (bad_number 10 largest field b))
 
     -- it is a number
-    pub walk_on : next ≤ length line → (value : ℕ) → number_of 10 largest (take (next - (end + 1)) (drop (end + 1) line)) ≡ Good value
-        → Walked word line n next (set numbers i value) (i + 1)
-    unfolding here
-    walk_on l value g =
-        let good = good_number 10 largest value here g in
-        let room : length s.done < most_numbers = omega (arith, s.count, s.most) in
+    pub walk_on : (value : ℕ) → number_of 10 largest field ≡ Some value → Walked word line n on (set numbers i value) (i + 1)
+    walk_on value g =
+        let good = good_number 10 largest value field g in
+        let room : length s.done < n = omega (arith, s.count) in
         record {
           within = omega arith;
-          most = s.most;
-          place = l;
           done = s.done ++ (value ∷ []);
           count = omega (arith, length-append s.done (value ∷ []), s.count);
           array =
-              ap (λ (x : List ℕ). set x i value) s.array ∙ ap (λ (m : ℕ). set (padded most_numbers 0 s.done) m value) (sym s.count)
-              ∙ padded_push most_numbers 0 s.done value room;
+              ap (λ (x : List ℕ). set x i value) s.array ∙ ap (λ (m : ℕ). set (padded n 0 s.done) m value) (sym s.count)
+              ∙ padded_push n 0 s.done value room;
           test = sym (one_more ∙ rw good.0) ∙ s.test;
           values =
-              append_assoc s.done (value ∷ []) (map value_of (behind tab (drop next line)))
-              ∙ ap (λ (v : ℕ). s.done ++ (v ∷ map value_of (behind tab (drop next line)))) (sym good.1)
-              ∙ ap (λ (x : List (List ℕ)). s.done ++ map value_of x) (sym fields_on)
+              append_assoc s.done (value ∷ []) (map value_of on)
+              ∙ ap (λ (v : ℕ). s.done ++ (v ∷ map value_of on)) (sym good.1)
+              ∙ ap (λ (x : List (List ℕ)). s.done ++ map value_of x) (sym e)
               ∙ s.values;
         }
+
+-- ---- the whole line by what was read
+
+-- no record fails the test
+pub record_none : (word line : List ℕ) (n : ℕ) → record_of word n line ≡ None → is_record word n line ≡ false
+unfolding record_of
+record_none word line n = chosen_none (is_record word n line) (padded most_numbers 0 (numbers_in line))
+
+-- a record passes it, and has the line's numbers
+pub record_some : (word line : List ℕ) (n : ℕ) (numbers : List ℕ) → record_of word n line ≡ Some numbers
+    → (is_record word n line ≡ true) × (padded most_numbers 0 (numbers_in line) ≡ numbers)
+unfolding record_of
+record_some word line n numbers = chosen_some (is_record word n line) (padded most_numbers 0 (numbers_in line)) numbers
 
 -- ---- how many numbers a record has
 

@@ -1,12 +1,11 @@
 -- Lines and fields: a text split at a byte, and a line as a record, which is a word with numbers behind it.
-use Rattle.std.specs.Prelude.{Bool, true, false, ℕ, zero, suc, eqb, get_or}
+use Rattle.std.specs.Prelude.{Bool, true, false, ℕ, zero, suc, ◌+◌, eqb, ltb, length, get_or, drop, Option, Some, None}
 use mathlib.Core.List.{List, [], ◌∷◌, map, tail}
 use Rattle.basics.specs.Choose.{both, choose}
 use Rattle.basics.specs.Lists.{padded}
 use Rattle.model.specs.Flows.{per_flow}
 use Rattle.digits.specs.Numbers.{is_number, value_of}
 use Rattle.words.specs.Bytes.{tab, same_bytes}
-use Rattle.records.specs.declared.fields.Record.{Record}
 
 -- a byte in front of the first part
 unfoldable pub onto : ℕ → List (List ℕ) → List (List ℕ)
@@ -22,6 +21,10 @@ split_by b (x ∷ xs) = elim (eqb x b) [ true ↦ [] ∷ split_by b xs | false �
 unfoldable pub index_of : ℕ → List ℕ → ℕ
 index_of b [] = 0
 index_of b (x ∷ xs) = elim (eqb x b) [ true ↦ 0 | false ↦ suc (index_of b xs) ]
+
+-- the place of the first such byte from a place on
+unfoldable pub place_from : ℕ → List ℕ → ℕ → Option ℕ
+place_from b text from = choose (ltb (index_of b (drop from text)) (length (drop from text))) (Some (from + index_of b (drop from text))) None
 
 -- the largest number that a field may hold
 abbrev pub largest : ℕ
@@ -50,14 +53,6 @@ numbers_in line = map value_of (tail (fields_of line))
 abbrev pub most_numbers : ℕ
 most_numbers = per_flow
 
--- a good line with its numbers
-unfoldable pub good_record : List ℕ → Record
-good_record numbers = record { good = true; numbers = padded most_numbers 0 numbers }
-
--- a bad line
-unfoldable pub bad_record : Record
-bad_record = record { good = false; numbers = padded most_numbers 0 [] }
-
--- a line as the record of a word and so many numbers, or a bad one
-unfoldable pub record_of : List ℕ → ℕ → List ℕ → Record
-record_of word n line = choose (is_record word n line) (good_record (numbers_in line)) bad_record
+-- the numbers of a line that is the record of a word and so many numbers, filled up with zeros
+unfoldable pub record_of : List ℕ → ℕ → List ℕ → Option (List ℕ)
+record_of word n line = choose (is_record word n line) (Some (padded most_numbers 0 (numbers_in line))) None

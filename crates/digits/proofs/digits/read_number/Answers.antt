@@ -1,85 +1,45 @@
--- `digits::digits::read_number` meets its contract: the value so far with the digits from i on spells the field, and since digits more
--- make no smaller value, a value past the most is no number.
-use mathlib.Core.Path.{◌≡◌, refl, sym, ◌∙◌, ap}
-use mathlib.Core.List.{List}
-use mathlib.Core.Bool.{true}
-use Prim.Native.Nat.{ℕ, ◌+◌, ◌-◌, ◌*◌, ◌/◌, ◌≤◌, ◌<◌}
-use native.Mathlib.Omega.{arith}
-use lib.ListN.{length, get_or, drop}
-use Rattle.digits.specs.Numbers.{is_formed, value_from, value_of, number_of}
-use Rattle.digits.specs.declared.digits.Number.TheVariants.{Good}
-use Rattle.digits.proofs.Spelling.{formed_digits, digit_low, digits_here, digits_behind, value_next, value_end, value_grows, not_formed, number_above, number_good}
-use borrow.Author.Rules.{rules}
-use Rattle.digits.proofs.digits.read_number.Invariants.{Spelt}
+-- `digits::digits::read_number` meets its contract: digits more make no smaller value, so a value past 64 bits is no number.
+use Rattle.std.proofs.Common.{arith, ◌≡◌, ◌∙◌, sym, ℕ, ◌+◌, ◌-◌, ◌*◌, ◌<◌, ◌≤◌, length, List, get_or, drop, refl, ap}
+use Rattle.std.proofs.lemmas.List.{at_drop_all}
+use Rattle.digits.specs.Numbers.{value_of, value_from}
+use Rattle.digits.proofs.Spelling.{not_formed, number_formed, number_above, value_grows, value_next, digits_next, formed_digits}
 use Rattle.digits.proofs.digits.read_number.Goals as goal
-
--- nothing is read yet
-begins : (field : List ℕ) (digits most end : ℕ) → is_formed digits field ≡ true → end ≡ length field → Spelt field digits most end 0 0
-unfolding value_of
-begins field digits most end e h = record {
-  formed = e;
-  within = omega arith;
-  whole = h;
-  small = omega arith;
-  rest = formed_digits digits field e;
-  spells = refl;
-}
-
-module _ (field : List ℕ) (digits most end value i : ℕ) (s : Spelt field digits most end value i) where
-  -- the next byte is a digit
-  low : i < end → 48 ≤ get_or field i 0
-  low h = digit_low _ (digits_here field i (omega arith) s.rest)
-
-  -- the field is no less than the value with the next digit
-  least : i < end → value * 10 + (get_or field i 0 - 48) ≤ value_of field
-  least h = omega (arith, value_grows (value * 10 + (get_or field i 0 - 48)) (drop (i + 1) field), sym (value_next field i (omega arith) value) ∙ s.spells)
-
-  -- a value past the tenth of the most
-  passed : i < end → most / 10 < value → most < value_of field
-  passed h k = omega (arith, least h)
-
-  -- a digit past what is left to the most
-  above : i < end → (digit : ℕ) → digit ≡ get_or field i 0 - 48 → value ≤ most / 10 → most - value * 10 < digit → most < value_of field
-  above h digit e k l = omega (arith, least h)
-
-  -- one digit more
-  onward : i < end → (digit : ℕ) → digit ≡ get_or field i 0 - 48 → value ≤ most / 10 → digit ≤ most - value * 10
-      → Spelt field digits most end (value * 10 + digit) (i + 1)
-  onward h digit e k l = record {
-    formed = s.formed;
-    within = omega arith;
-    whole = s.whole;
-    small = omega arith;
-    rest = digits_behind field i (omega arith) s.rest;
-    spells = ap (λ (d : ℕ). value_from (value * 10 + d) (drop (i + 1) field)) e ∙ sym (value_next field i (omega arith) value) ∙ s.spells;
-  }
-
-  -- no digit is left
-  finished : end ≤ i → Good value ≡ number_of digits most field
-  finished h = sym (number_good digits most value field s.formed (sym s.spells ∙ value_end field i value (omega arith)) s.small)
 
 pub returns-then-not-formed : goal.returns-then-not-formed
 returns-then-not-formed c = sym (not_formed _ _ _ (sym c.formed.ensures ∙ c.if-not-formed.true))
 
-pub loop-i-init : goal.loop-i-init
+pub loop-byte-init : goal.loop-byte-init
 unfolding value_of
-loop-i-init c = begins _ _ _ _ (sym c.formed.ensures ∙ c.if-not-formed.false) (search rules)
+loop-byte-init c =
+    let formed = sym c.formed.ensures ∙ c.if-not-formed.false in
+    record { formed = formed; rest = formed_digits _ _ formed; spells = refl }
 
-pub returns-then-most-value : goal.returns-then-most-value
-returns-then-most-value c = sym (number_above _ _ _ (passed _ _ _ _ _ _ c.loop-i.invariant c.loop-i-test.true c.if-most-value.true))
+pub overflow_sub-byte : goal.overflow_sub-byte
+overflow_sub-byte c = (digits_next _ _ c.loop-byte-test.true c.loop-byte.invariant.rest).0
 
-pub overflow_sub-digit : goal.overflow_sub-digit
-overflow_sub-digit c = rw c.wide-digit.ensures (low _ _ _ _ _ _ c.loop-i.invariant c.loop-i-test.true)
+-- what the value and the next digit make is no more than the field's
+least : (field : List ℕ) (i value : ℕ) → i < length field → value_from value (drop i field) ≡ value_of field
+    → value * 10 + (get_or field i 0 - 48) ≤ value_of field
+least field i value h e = omega (arith, value_grows (value * 10 + (get_or field i 0 - 48)) (drop (i + 1) field), sym (value_next field i value h) ∙ e)
 
-pub returns-then-most-value-2 : goal.returns-then-most-value-2
-returns-then-most-value-2 c =
-    sym (number_above _ _ _ (above _ _ _ _ _ _ c.loop-i.invariant c.loop-i-test.true _
-    (ap (λ (b : ℕ). b - 48) c.wide-digit.ensures) c.if-most-value.false c.if-most-value-2.true))
+pub returns-in_err-checked_mul : goal.returns-in_err-checked_mul
+returns-in_err-checked_mul c =
+    c.from_residual.ensures ∙ sym (number_above _ _ _ (omega (arith, c.in_err-checked_mul.ensures, c.ranges.most.fits, least _ _ _ c.loop-byte-test.true c.loop-byte.invariant.spells)))
 
-pub loop-i-preserved : goal.loop-i-preserved
-loop-i-preserved c =
-    onward _ _ _ _ _ _ c.loop-i.invariant c.loop-i-test.true _
-    (ap (λ (b : ℕ). b - 48) c.wide-digit.ensures) c.if-most-value.false c.if-most-value-2.false
+pub returns-in_err-value : goal.returns-in_err-value
+returns-in_err-value c =
+    c.from_residual-in_err-value.ensures ∙ sym (number_above _ _ _ (omega (arith, c.in_err-value.ensures, c.in_ok-checked_mul.ensures, c.from-digit.ensures, c.ranges.most.fits, least _ _ _ c.loop-byte-test.true c.loop-byte.invariant.spells)))
+
+pub loop-byte-preserved : goal.loop-byte-preserved
+loop-byte-preserved c =
+    let value : c.in_ok-value.value ≡ c.loop-byte.value * 10 + (get_or c.args.field.now c.loop-byte.byte-index 0 - 48) = omega (arith, c.in_ok-value.ensures, c.in_ok-checked_mul.ensures, c.from-digit.ensures) in
+    record {
+      formed = c.loop-byte.invariant.formed;
+      rest = (digits_next _ _ c.loop-byte-test.true c.loop-byte.invariant.rest).1;
+      spells = ap (λ (v : ℕ). value_from v (drop (c.loop-byte.byte-index + 1) c.args.field.now)) value ∙ sym (value_next _ _ _ c.loop-byte-test.true) ∙ c.loop-byte.invariant.spells;
+    }
 
 pub returns : goal.returns
-returns c = finished _ _ _ _ _ _ c.loop-i.invariant c.loop-i-test.false
+unfolding value_from
+returns c =
+    c.then_some.ensures ∙ number_formed _ _ _ _ c.loop-byte.invariant.formed (sym c.loop-byte.invariant.spells ∙ at_drop_all (value_from c.loop-byte.value) _ _ c.loop-byte-test.false)

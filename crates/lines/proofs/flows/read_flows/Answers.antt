@@ -1,19 +1,40 @@
 -- `lines::flows::read_flows` meets its contract: between two lines the loop knows `Flowing`, and each way out is a law of it.
-use borrow.Author.Tests.{not-true, not-false}
+use mathlib.Core.Path.{◌≡◌, refl, sym, ◌∙◌, ap}
+use native.Mathlib.Omega.{arith}
+use Rattle.std.specs.Prelude.{Option, Result, Some, None, Err}
+use Rattle.std.specs.Option.{ok_or}
+use Rattle.std.proofs.lemmas.Result.{err_from_is_err_and}
+use Rattle.basics.specs.Lists.{padded}
+use Rattle.lines.specs.Form.{flows_kept}
 use Rattle.lines.proofs.FlowLines.{flowing_begins, flowing_ends, flowing_bad, flowing_less, flowing_on}
+use Rattle.lines.specs.declared.flows.BadLine.{BadLine}
+use Rattle.lines.specs.declared.taking.Line.{Line}
 use Rattle.lines.proofs.flows.read_flows.Goals as goal
 
 pub loop-at-init : goal.loop-at-init
-loop-at-init c = flowing_begins _ _ _ c.requires.0 c.requires.1 c.no_numbers-numbers.ensures
+unfolding flows_kept padded
+loop-at-init c = flowing_begins _ _ _ c.requires.0 c.requires.1 refl
 
-pub returns-then-not-line : goal.returns-then-not-line
-returns-then-not-line c = flowing_bad _ _ _ _ _ c.loop-at.invariant c.loop-at-test.true _ c.read_line-line.ensures (not-true _ c.if-not-line.true) _ c.no_numbers.ensures
+-- the error is the bad line that was named
+named : (line : Option Line) (bad e : BadLine) (r : Result Line BadLine) → line ≡ None → r ≡ ok_or line bad → r ≡ Err e → bad ≡ e
+named line bad e r n f g = let h : ◌≡◌ {A = Result Line BadLine} (Err bad) (Err e) = sym (f ∙ ap (λ (l : Option Line). ok_or l bad) n) ∙ g in cc
+
+pub returns-in_err-line : goal.returns-in_err-line
+returns-in_err-line c =
+    let none : c.read_line.result ≡ None = grind arith in
+    let bad = named _ _ _ _ none c.ok_or.ensures.value c.in_err-line.was in
+    let p = err_from_is_err_and c.from_residual.result c.from_residual.ensures.1 in
+    rw (p.1, p.2, ← bad) (flowing_bad _ _ _ _ _ c.loop-at.invariant c.loop-at-test.true (sym c.read_line.ensures ∙ none))
 
 pub loop-at-smaller : goal.loop-at-smaller
-loop-at-smaller c = flowing_less _ _ _ _ _ c.loop-at.invariant c.loop-at-test.true _ c.read_line-line.ensures (not-false _ c.if-not-line.false)
+loop-at-smaller c =
+    let some : c.read_line.result ≡ Some c.in_ok-line.line = grind arith in
+    flowing_less _ _ _ _ _ c.loop-at.invariant _ (sym c.read_line.ensures ∙ some)
 
 pub loop-at-preserved : goal.loop-at-preserved
-loop-at-preserved c = flowing_on _ _ _ _ _ c.loop-at.invariant c.loop-at-test.true _ c.read_line-line.ensures (not-false _ c.if-not-line.false) _ c.stored-next.ensures
+loop-at-preserved c =
+    let some : c.read_line.result ≡ Some c.in_ok-line.line = grind arith in
+    flowing_on _ _ _ _ _ c.loop-at.invariant _ (sym c.read_line.ensures ∙ some) _ c.store.ensures
 
 pub returns : goal.returns
 returns c = flowing_ends _ _ _ _ _ c.loop-at.invariant c.loop-at-test.false

@@ -1,35 +1,24 @@
--- `records::fields::find` meets its contract: from each place that is passed, the byte stands as far on as from the start.
-use mathlib.Core.Path.{◌≡◌, refl}
-use mathlib.Core.List.{List}
-use Prim.Native.Nat.{ℕ, ◌+◌, ◌≤◌, ◌<◌}
-use native.Mathlib.Omega.{arith}
-use lib.ListN.{length, get_or, drop}
-use Rattle.records.specs.Records.{index_of}
-use Rattle.records.proofs.Places.{index_here, index_next, index_end}
-use Rattle.records.proofs.fields.find.Invariants.{Sought}
+-- `records::fields::find` meets its contract.
+use Rattle.std.proofs.Common.{rules, ◌+◌, sym, ◌∙◌, ap}
+use borrow.Author.Tests.{tests}
+use lib.Dec.{eqb}
+use Rattle.std.specs.Option.{option_map}
+use Rattle.std.proofs.lemmas.Iterator.{YieldsList-from_slice}
+use Rattle.std.proofs.lemmas.Iterator.Search.{position_from_yields_List}
+use Rattle.std.proofs.lemmas.List.{take_rest}
+use Rattle.records.proofs.Places.{place_is}
 use Rattle.records.proofs.fields.find.Goals as goal
 
-module _ (text : List ℕ) (byte from i : ℕ) (s : Sought text byte from i) where
-  -- it stands here
-  here : i < length text → get_or text i 0 ≡ byte → i ≡ from + index_of byte (drop from text)
-  here h e = omega (arith, index_here byte text i h e)
-
-  -- it does not
-  further : i < length text → (get_or text i 0 ≡ byte → ⊥) → Sought text byte from (i + 1)
-  further h e = record { within = omega arith; place = omega (arith, index_next byte text i h e) }
-
-  -- it stands nowhere
-  nowhere : length text ≤ i → i ≡ from + index_of byte (drop from text)
-  nowhere h = omega (arith, index_end byte text i (omega arith))
-
-pub loop-i-init : goal.loop-i-init
-loop-i-init c = record { within = c.requires; place = refl }
-
-pub returns-then-text-i : goal.returns-then-text-i
-returns-then-text-i c = here _ _ _ _ c.loop-i.invariant c.loop-i-test.true c.if-text-i.true
-
-pub loop-i-preserved : goal.loop-i-preserved
-loop-i-preserved c = further _ _ _ _ c.loop-i.invariant c.loop-i-test.true c.if-text-i.false
+pub returns-in_err-place : goal.returns-in_err-place
+returns-in_err-place c =
+    c.from_residual.ensures ∙ sym (ap (option_map (λ k. c.args.from + k)) c.in_err-place.was)
+    ∙ place_is _ _ _ _
+    (position_from_yields_List (λ x. eqb x c.args.byte) _ _ c.position.result c.position.ensures.ran
+    (YieldsList-from_slice _ (c.iter.ensures.rest ∙ take_rest c.args.text.now c.args.from)) (λ x b q k. search (rules, tests)))
 
 pub returns : goal.returns
-returns c = nowhere _ _ _ _ c.loop-i.invariant c.loop-i-test.false
+returns c =
+    sym (ap (option_map (λ k. c.args.from + k)) c.in_ok-place.was)
+    ∙ place_is _ _ _ _
+    (position_from_yields_List (λ x. eqb x c.args.byte) _ _ c.position.result c.position.ensures.ran
+    (YieldsList-from_slice _ (c.iter.ensures.rest ∙ take_rest c.args.text.now c.args.from)) (λ x b q k. search (rules, tests)))

@@ -1,53 +1,57 @@
--- `records::fields::read_record` meets its contract: between two fields the walk knows `Walked`, and each way out is a law of it.
-use mathlib.Core.List.{List}
-use mathlib.Core.Path.{sym, ◌∙◌, ap}
-use mathlib.Core.Bool.{true}
-use Prim.Native.Nat.{ℕ}
-use native.Mathlib.Omega.{arith}
-use lib.Seq.{length-take-le}
-use Rattle.basics.specs.Lists.{padded}
+-- `records::fields::read_record` meets its contract: the walk from field to field.
+use Rattle.std.proofs.Common.{rules, arith, ◌≡◌, ◌≤◌, length, ℕ, sym, ◌∙◌, replicate, take, length-take}
+use borrow.Author.Tests.{tests}
+use Rattle.std.proofs.lemmas.List.{length-replicate}
+use Rattle.records.specs.Records.{most_numbers}
+use Rattle.records.proofs.Recording.{at_tab, computes, left_next, left_none, left_some, wrong_word, walk_begins, walk_short, walk_long, walk_ends, walk_bad, walk_on}
 use Rattle.digits.proofs.Spelling.{number_most}
-use Rattle.records.specs.Records.{good_record}
-use Rattle.records.proofs.Places.{index_within}
-use Rattle.records.proofs.Recording.{wrong_word, walk_begins, walk_short, walk_long, walk_ends, walk_bad, walk_on}
-use borrow.Author.Rules.{rules}
 use Rattle.records.proofs.fields.read_record.Goals as goal
 
-pub slice_bounds-same_bytes-end : goal.slice_bounds-same_bytes-end
-slice_bounds-same_bytes-end c = sym (length-take-le _ _ (index_within _ _ _ _ (search rules) c.find-end.ensures))
+pub returns-then-ne : goal.returns-then-ne
+returns-then-ne c =
+    let steps = c.in_ok-next.ensures.steps in
+    wrong_word _ _ _ _ _ _ _ steps.0 c.split-fields.ensures.rest
+    (left_next _ _ _ _ _ steps.0 steps.1 (steps.2 at_tab (computes _ _ (λ x r q k. search (rules, tests)))).1) (grind (arith, c.ne.ensures, c.if-ne.true))
 
-pub returns-then-not-same_bytes : goal.returns-then-not-same_bytes
-returns-then-not-same_bytes c =
-    c.bad.ensures ∙ wrong_word _ _ _ _ c.find-end.ensures (sym c.same_bytes.ensures ∙ c.if-not-same_bytes.true)
+pub loop-number-init : goal.loop-number-init
+loop-number-init c =
+    let steps = c.in_ok-next.ensures.steps in
+    walk_begins _ _ _ _ _ _ _ steps.0 c.split-fields.ensures.rest
+    (left_next _ _ _ _ _ steps.0 steps.1 (steps.2 at_tab (computes _ _ (λ x r q k. search (rules, tests)))).1) c.requires
+    (grind (arith, c.ne.ensures, c.if-ne.false))
 
-pub loop-i-init : goal.loop-i-init
-unfolding padded
-loop-i-init c =
-    walk_begins _ _ _ _ c.requires (index_within _ _ _ _ (search rules) c.find-end.ensures) c.find-end.ensures
-    (sym c.same_bytes.ensures ∙ c.if-not-same_bytes.false)
+-- the loop ends behind n numbers
+ends_at : (n : ℕ) → n ≤ most_numbers → length (take n (replicate {A = ℕ} most_numbers 0)) ≡ n
+ends_at n h = omega (arith, length-take n (replicate {A = ℕ} most_numbers 0), length-replicate {A = ℕ} most_numbers 0)
 
-pub returns-then-line-end : goal.returns-then-line-end
-returns-then-line-end c = c.bad-then-line-end.ensures ∙ walk_short _ _ _ _ _ _ c.loop-i.invariant c.loop-i-test.true c.if-line-end.true
+pub returns-in_err-next-2 : goal.returns-in_err-next-2
+returns-in_err-next-2 c =
+    c.from_residual-in_err-next-2.ensures
+    ∙ walk_short _ _ _ _ _ _ c.loop-number.invariant (omega (arith, ends_at c.args.n c.requires)) (left_none _ _ c.in_err-next-2.ensures.steps.0)
 
-pub slice_bounds-read_number-end : goal.slice_bounds-read_number-end
-slice_bounds-read_number-end c = index_within _ _ _ _ (search rules) c.find-next.ensures
+pub returns-in_err-number : goal.returns-in_err-number
+returns-in_err-number c =
+    let steps = c.in_ok-next-2.ensures.steps in
+    c.from_residual-in_err-number.ensures
+    ∙ walk_bad _ _ _ _ _ _ c.loop-number.invariant (omega (arith, ends_at c.args.n c.requires)) _ _
+    (left_next _ _ _ _ _ steps.0 steps.1 (steps.2 at_tab (computes _ _ (λ x r q k. search (rules, tests)))).1)
+    (sym c.read_number.ensures ∙ c.in_err-number.was)
 
-pub returns-in_default : goal.returns-in_default
-returns-in_default c =
-    c.bad-in_default.ensures ∙ walk_bad _ _ _ _ _ _ c.loop-i.invariant c.loop-i-test.true c.if-line-end.false _ c.find-next.ensures
-    (sym c.read_number.ensures ∙ c.in_default.is)
+pub overflow_cast-number : goal.overflow_cast-number
+overflow_cast-number c = record { fits = omega (arith, number_most _ _ c.in_ok-number.field-0 _ (sym c.read_number.ensures ∙ c.in_ok-number.was)) }
 
-pub overflow_cast-numbers : goal.overflow_cast-numbers
-overflow_cast-numbers c = record { fits = omega (arith, number_most _ _ c.in-Good.value _ (sym c.read_number.ensures ∙ c.in-Good.is)) }
+pub loop-number-preserved : goal.loop-number-preserved
+loop-number-preserved c =
+    let steps = c.in_ok-next-2.ensures.steps in
+    walk_on _ _ _ _ _ _ c.loop-number.invariant (omega (arith, ends_at c.args.n c.requires)) _ _
+    (left_next _ _ _ _ _ steps.0 steps.1 (steps.2 at_tab (computes _ _ (λ x r q k. search (rules, tests)))).1) _
+    (sym c.read_number.ensures ∙ c.in_ok-number.was)
 
-pub loop-i-preserved : goal.loop-i-preserved
-loop-i-preserved c =
-    walk_on _ _ _ _ _ _ c.loop-i.invariant c.loop-i-test.true c.if-line-end.false _ c.find-next.ensures
-    (index_within _ _ _ _ (search rules) c.find-next.ensures) _ (sym c.read_number.ensures ∙ c.in-Good.is)
+pub returns-in-None : goal.returns-in-None
+returns-in-None c =
+    walk_ends _ _ _ _ _ _ c.loop-number.invariant c.requires (omega (arith, ends_at c.args.n c.requires))
+    (left_none _ _ c.in-None.ensures.steps.0)
 
-pub returns-then-end-line : goal.returns-then-end-line
-returns-then-end-line c = c.bad-then-end-line.ensures ∙ walk_long _ _ _ _ _ _ c.loop-i.invariant c.loop-i-test.false c.if-end-line.true
-
-pub returns : goal.returns
-unfolding good_record
-returns c = ap (λ (l : List ℕ). record { good = true; numbers = l }) c.loop-i.invariant.array ∙ walk_ends _ _ _ _ _ _ c.loop-i.invariant c.loop-i-test.false c.if-end-line.false
+pub returns-in-Some : goal.returns-in-Some
+returns-in-Some c =
+    walk_long _ _ _ _ _ _ c.loop-number.invariant (omega (arith, ends_at c.args.n c.requires)) (left_some _ _ c.in-Some.ensures.steps.0)

@@ -1,6 +1,6 @@
--- `records::fields::read_record` meets its contract: between two fields the walk knows `Walked`, and each way out is a law of it.
-use Rattle.records.proofs.Recording.{Walked}
+-- `records::fields::read_record` meets its contract: `Walked` holds between two fields.
+use Rattle.records.proofs.Recording.{left, Walked}
 use Rattle.records.proofs.fields.read_record.Given as goal
 
-abbrev pub invariant-loop-i : goal.invariant-loop-i
-invariant-loop-i l = Walked l.word l.line l.n l.end l.numbers l.i
+abbrev pub invariant-loop-number : goal.invariant-loop-number
+invariant-loop-number l = Walked l.fn.word l.line l.n (left l.fields.done l.fields.rest.now) l.number-items l.number-index
