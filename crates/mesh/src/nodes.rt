@@ -39,6 +39,7 @@ pub fn far(a: usize, b: usize) -> usize
 }
 
 // The distance of two nodes: columns apart plus rows apart.
+#[tactic(auto, unfolding(crate::specs::Node::distance_of, crate::specs::Node::place_of, crate::specs::Node::apart))]
 pub fn distance(columns: usize, a: usize, b: usize) -> usize
     requires { Ends columns a b }
     ensures { result ≡ distance_of columns a b }
