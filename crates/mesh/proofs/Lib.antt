@@ -2,5 +2,4 @@
 pub mod Bounds
 pub mod Determined
 pub mod Numbers
-pub mod SixKinds
 pub mod Steps

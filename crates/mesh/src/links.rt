@@ -42,6 +42,7 @@ const STEP: [Step; 6] = [
 pub const ALL_LINKS: usize = 1536;
 
 // A link's number.
+#[tactic(auto, unfolding(crate::specs::Link::link_of))]
 pub fn link_of(node: usize, kind: Kind) -> u16
     requires { node < 256 }
     ensures { result ≡ link_of node (number_of kind) }
@@ -50,6 +51,7 @@ pub fn link_of(node: usize, kind: Kind) -> u16
 }
 
 // The step of a kind.
+#[tactic(auto, unfolding(crate::specs::Link::step_of, crate::specs::Link::steps))]
 fn step_of(kind: Kind) -> Step
     ensures { result ≡ step_of (number_of kind) }
 {
@@ -57,6 +59,7 @@ fn step_of(kind: Kind) -> Step
 }
 
 // The place at which a link of a kind ends that begins at a place.
+#[tactic(auto, unfolding(crate::specs::Link::end_of))]
 pub fn end_of(kind: Kind, at: Place) -> Place
     requires { Inner (number_of kind) at }
     ensures { result ≡ end_of (number_of kind) at }

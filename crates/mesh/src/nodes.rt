@@ -10,6 +10,7 @@ pub struct Place {
 }
 
 // The place of a node.
+#[tactic(auto, unfolding(crate::specs::Node::place_of))]
 pub fn place_of(columns: usize, node: usize) -> Place
     requires { 0 < columns }
     ensures { result ≡ place_of columns node }
@@ -21,6 +22,7 @@ pub fn place_of(columns: usize, node: usize) -> Place
 }
 
 // The node at a place.
+#[tactic(auto, unfolding(crate::specs::Node::node_at))]
 pub fn node_at(columns: usize, at: Place) -> usize
     requires { (columns ≤ 16) × (at.column < 16) × (at.row < 16) }
     ensures { result ≡ node_at columns at }
@@ -29,6 +31,7 @@ pub fn node_at(columns: usize, at: Place) -> usize
 }
 
 // How far two columns, or two rows, are apart.
+#[tactic(auto, unfolding(crate::specs::Node::apart))]
 pub fn far(a: usize, b: usize) -> usize
     ensures { result ≡ apart a b }
 {
@@ -36,6 +39,7 @@ pub fn far(a: usize, b: usize) -> usize
 }
 
 // The distance of two nodes: columns apart plus rows apart.
+#[tactic(auto, unfolding(crate::specs::Node::distance_of, crate::specs::Node::place_of, crate::specs::Node::apart))]
 pub fn distance(columns: usize, a: usize, b: usize) -> usize
     requires { Ends columns a b }
     ensures { result ≡ distance_of columns a b }

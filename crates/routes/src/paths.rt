@@ -48,6 +48,7 @@ impl Path {
 }
 
 // The kind that leads from a towards b: up by the first, down by the second, the kind after it.
+#[tactic(auto, unfolding(crate::specs::Route::towards))]
 fn kind_towards(up: Kind, down: Kind, a: usize, b: usize) -> Kind
     requires { number_of down ≡ number_of up + 1 }
     ensures { number_of result ≡ towards (number_of up) a b }

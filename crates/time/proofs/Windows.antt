@@ -1,13 +1,11 @@
 -- Laws of windows, over start and length.
 -- In order: the cycles that a window holds; then overlap: exactly where two windows of positive length hold a common cycle,
--- never where one ends at or before the other's start, and the same from either side; then how the code compares cycles.
-use mathlib.Core.Path.{◌≡◌, refl}
-use mathlib.Core.Bool.{Bool, true, false, cond}
+-- never where one ends at or before the other's start, and the same from either side.
+use mathlib.Core.Path.{◌≡◌}
+use mathlib.Core.Bool.{true, false}
 use Prim.Native.Nat.{ℕ, ◌+◌, ◌-◌, ◌≤◌, ◌<◌, max}
 use native.Mathlib.Omega.{arith}
-use lib.Dec.{leb, ltb, eqb}
-use Rattle.std.specs.Ordering.{nat_cmp, is_lt}
-use Rattle.std.specs.declared.cmp.Ordering.TheVariants.{Less, Equal, Greater}
+use lib.Dec.{leb, ltb}
 use borrow.Author.Tests.{leb-true, ltb-true, le-leb, lt-ltb, le-ltb}
 use Rattle.basics.proofs.Choose.{both_pass, both_first, both_second, both_not, both_swap}
 use Rattle.time.specs.Window.{holds, overlaps}
@@ -82,14 +80,3 @@ touching_apart s a b = before_apart s a (s + a) b (omega arith)
 pub overlaps_swap : (s a t b : ℕ) → overlaps s a t b ≡ overlaps t b s a
 unfolding overlaps
 overlaps_swap s a t b = both_swap (ltb s (t + b)) (ltb t (s + a))
-
--- ---- as the code compares cycles
-
--- the library's order of two numbers is less exactly where the first is below the second
-pub less : (x y : ℕ) → is_lt (nat_cmp x y) ≡ ltb x y
-less x y = go (ltb x y) (eqb x y)
-  where
-    go : (a b : Bool) → is_lt (cond a Less (cond b Equal Greater)) ≡ a
-    go true b = refl
-    go false true = refl
-    go false false = refl

@@ -15,6 +15,7 @@ pub struct Flits(pub u32);
 pub struct Cycles(pub u32);
 
 // The payload of a size, in flits of the width.
+#[tactic(auto, unfolding(crate::specs::Units::flits_of))]
 pub fn flits_of(size: Bytes, width: Bytes) -> Flits
     requires { 0 < width.0 }
     ensures { result ≡ flits_of size width }
@@ -23,6 +24,7 @@ pub fn flits_of(size: Bytes, width: Bytes) -> Flits
 }
 
 // The cycles for which a payload holds its path: r for each router, the payload, and one.
+#[tactic(auto, unfolding(crate::specs::Units::occupancy_of))]
 pub fn occupancy(r: Cycles, distance: u32, payload: Flits) -> Cycles
     requires { (r.0 ≤ 64) × (distance ≤ 30) × (payload.0 ≤ 65536) }
     ensures { result ≡ occupancy_of r distance payload }

@@ -22,6 +22,7 @@ impl Window {
 }
 
 // Whether two windows have a cycle in common; touching windows have none.
+#[tactic(auto, unfolding(crate::specs::Window::overlaps))]
 pub fn overlap(a: Window, b: Window) -> bool
     requires { (a.start.0 + a.span.0 < 2 ^ 32) × (b.start.0 + b.span.0 < 2 ^ 32) }
     ensures { result ≡ overlaps a.start.0 a.span.0 b.start.0 b.span.0 }
