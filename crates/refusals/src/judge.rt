@@ -45,8 +45,7 @@ fn refuse_sums(numbers: &[u32]) -> Result<(), Refusal>
     ensures { result ≡ sums_refusal numbers.now }
 {
     let hyper = hyper_in(numbers).ok_or(Refusal::LongHyper)?;
-    let many = 1024 < packets_in(numbers, hyper);
-    if many {
+    if 1024 < packets_in(numbers, hyper) {
         return Err(Refusal::ManyPackets);
     }
     Ok(())
