@@ -10,7 +10,8 @@ use native.Mathlib.Decide.{dec_le}
 use lib.Dec.{ltb}
 use native.Mathlib.Omega.{arith}
 use borrow.Author.Tests.{ltb-true, ltb-false, lt-ltb, le-ltb, not-true, not-false}
-use Rattle.std.proofs.Common.{Some, None}
+use Rattle.std.proofs.Common.{Option, Some, None}
+use Rattle.std.specs.Option.{MatchOption}
 use Rattle.basics.specs.Choose.{choose}
 use Rattle.basics.specs.First.{first_from, first, some, every, found}
 
@@ -172,3 +173,12 @@ found_not test n e = go (some test n) refl e
     go : (b : Bool) → some test n ≡ b → choose b (Some (first test n)) None ≡ None → (j : ℕ) → j < n → test j ≡ false
     go true s f = let z : ◌≡◌ {A = ℕ} 0 1 = cc in absurd (omega arith)
     go false s f = none_passes test n s
+
+-- what a search over the numbers from low to n gives is what is found, where none below low passes
+pub found_from : (test : ℕ → Bool) (low n : ℕ) (r : Option ℕ) → ((j : ℕ) → j < low → test j ≡ false)
+    → MatchOption r ((j : ℕ) → low ≤ j → j < n → test j ≡ false) (λ i. (low ≤ i) × (i < n) × (test i ≡ true) × ((j : ℕ) → low ≤ j → j < i → test j ≡ false))
+    → r ≡ found test n
+found_from test low n None before none =
+    sym (found_none test n (λ j h. elim (dec_le low j) [ yes l ↦ none j l h | no l ↦ before j (lt_of_not-le l) ]))
+found_from test low n (Some i) before w =
+    sym (found_is test n i w.1 w.2 (λ j h. elim (dec_le low j) [ yes l ↦ w.3 j l h | no l ↦ before j (lt_of_not-le l) ]))
