@@ -20,7 +20,6 @@ use Rattle.refusals.specs.Refusals.{bad_hyper, bad_packets, bad_flow, Tested, ac
 use Rattle.model.specs.Fair.{FairList, Listed, Sized, Timed, FairFlow, Fair}
 use Rattle.model.specs.declared.flows.Mesh.{Mesh}
 use Rattle.model.specs.declared.answers.Refusal.{Refusal}
-use Rattle.model.specs.declared.answers.Refusal.TheVariants.{LongHyper, ManyPackets}
 use Rattle.limits.proofs.Past.{mesh_fair, mesh_passes, list_fair, list_passes, nodes_fair, nodes_passes, times_fair, times_passes, long_fair, long_passes}
 
 -- ---- a flow
@@ -102,21 +101,10 @@ pub sums_fair : (numbers : List ℕ) → sums_refusal numbers ≡ accepted → (
 unfolding sums_refusal bad_hyper bad_packets refuse_if
 sums_fair numbers e = (grind arith, grind arith)
 
-module _ (numbers : List ℕ) where
-  -- an H above its limit is 8
-  pub sums_hyper : most < hyper_in numbers → sums_refusal numbers ≡ Err LongHyper
-  unfolding sums_refusal bad_hyper refuse_if
-  sums_hyper h = grind arith
-
-  -- an H within its limit with too many packets is 9
-  pub sums_packets : hyper_in numbers ≤ most → 1024 < packets_in numbers → sums_refusal numbers ≡ Err ManyPackets
-  unfolding sums_refusal bad_hyper bad_packets refuse_if
-  sums_packets h k = grind arith
-
-  -- H and packets within their limits are not refused
-  pub sums_passes : hyper_in numbers ≤ most → packets_in numbers ≤ 1024 → sums_refusal numbers ≡ accepted
-  unfolding sums_refusal bad_hyper bad_packets refuse_if
-  sums_passes h k = grind arith
+-- H and packets within their limits are not refused
+pub sums_passes : (numbers : List ℕ) → hyper_in numbers ≤ most → packets_in numbers ≤ 1024 → sums_refusal numbers ≡ accepted
+unfolding sums_refusal bad_hyper bad_packets refuse_if
+sums_passes numbers h k = grind arith
 
 -- ---- the whole
 

@@ -3,7 +3,6 @@ ghost use Rattle.std.specs.Prelude.{◌≡◌};
 ghost use Rattle.refusals.specs.Refusals.{flow_refusal, flows_refusal, sums_refusal, refusal_of};
 ghost use Rattle.model.specs.Fair.{FairMesh, FairList, Listed, Timed};
 
-use hyperperiod::Hyper;
 use limits::{bad_list, bad_mesh, bad_nodes, bad_times, too_long};
 use model::{Mesh, PER_FLOW, Refusal, hyper_in, packets_in};
 
@@ -40,16 +39,13 @@ fn refuse_flows(mesh: Mesh, numbers: &[u32]) -> Result<(), Refusal>
 }
 
 // 8: H above 16,777,216. 9: more than 1,024 packets.
+#[tactic(auto, using(hyperperiod::proofs::HyperPeriod::above_only, model::proofs::Packing::is_only), unfolding(crate::specs::Refusals::sums_refusal, crate::specs::Refusals::bad_hyper, crate::specs::Refusals::bad_packets, crate::specs::Refusals::refuse_if, model::specs::Packets::hyper_in))]
 fn refuse_sums(numbers: &[u32]) -> Result<(), Refusal>
     requires { Timed numbers.now }
     ensures { result ≡ sums_refusal numbers.now }
 {
-    let found = hyper_in(numbers);
-    let Hyper::Is(hyper) = found else {
-        return Err(Refusal::LongHyper);
-    };
-    let many = 1024 < packets_in(numbers, hyper);
-    if many {
+    let hyper = hyper_in(numbers).ok_or(Refusal::LongHyper)?;
+    if 1024 < packets_in(numbers, hyper) {
         return Err(Refusal::ManyPackets);
     }
     Ok(())
