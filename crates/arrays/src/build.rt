@@ -1,14 +1,12 @@
 // The flows and the packets of a model that is not refused, as arrays by value.
-ghost use Rattle.std.specs.Prelude.{◌≡◌, [], ◌≤◌};
-ghost use Rattle.hyperperiod.specs.Hyper.{most};
+ghost use Rattle.std.specs.Prelude.{◌≡◌, []};
 ghost use Rattle.model.specs.Flows.{flows_in};
-ghost use Rattle.model.specs.Packets.{hyper_in, packets_of};
-ghost use Rattle.model.specs.Fair.{Fair, Timed};
+ghost use Rattle.model.specs.Packets.{packets_of};
+ghost use Rattle.model.specs.Fair.{Fair};
 ghost use Rattle.model.specs.declared.flows.Mesh.{Mesh};
 ghost use Rattle.arrays.specs.Arrays.{Packable, no_flows, flows_up_to, arrays_of, model_of};
 
-use hyperperiod::Hyper;
-use model::{Mesh, PER_FLOW, hyper_in, number_of, occupancy_of};
+use model::{Mesh, PER_FLOW, flow_of, hyper_in, occupancy_of};
 use routes::{Path, route};
 
 // The flows: period, deadline, occupancy and path of each of the first count; what follows them is 0.
@@ -35,17 +33,6 @@ pub struct Model {
     pub hyper: u32,
     pub flows: Flows,
     pub packets: Packets,
-}
-
-// The hyper-period of a model that is not refused.
-fn hyper_of(numbers: &[u32]) -> u32
-    requires { Timed numbers.now × (hyper_in numbers.now ≤ most) }
-    ensures { result ≡ hyper_in numbers.now }
-{
-    match hyper_in(numbers) {
-        Hyper::Is(hyper) => hyper,
-        Hyper::Above => 0,
-    }
 }
 
 // No flows.
@@ -84,14 +71,15 @@ fn flows_of(mesh: Mesh, numbers: &[u32]) -> Flows
     let mut flows = no_flows();
     let n = numbers.len() / PER_FLOW;
     for f in 0..n {
-        let source = number_of(numbers, f, 0) as usize;
-        let target = number_of(numbers, f, 1) as usize;
-        flows.period[f] = number_of(numbers, f, 2);
-        flows.due[f] = number_of(numbers, f, 4);
-        let held = occupancy_of(mesh, numbers, f);
-        flows.occupancy[f] = held.0;
-        let path = route(mesh.columns as usize, source, target);
-        flows.path[f] = path;
+        let flow = flow_of(numbers, f);
+        flows.period[f] = flow.period;
+        flows.due[f] = flow.due;
+        flows.occupancy[f] = occupancy_of(mesh, numbers, f).0;
+        flows.path[f] = route(
+            mesh.columns as usize,
+            flow.source as usize,
+            flow.target as usize,
+        );
         flows.count = f + 1;
     }
     flows
@@ -105,7 +93,7 @@ fn packets_of(numbers: &[u32], hyper: u32) -> Packets
     let mut packets = no_packets();
     let n = numbers.len() / PER_FLOW;
     for f in 0..n {
-        let period = number_of(numbers, f, 2);
+        let period = flow_of(numbers, f).period;
         let turns = hyper / period;
         for k in 0..turns {
             let at = packets.count;
@@ -122,12 +110,10 @@ pub fn model_of(mesh: Mesh, numbers: &[u32]) -> Model
     requires { Fair mesh numbers.now }
     ensures { result ≡ model_of mesh numbers.now }
 {
-    let hyper = hyper_of(numbers);
-    let flows = flows_of(mesh, numbers);
-    let packets = packets_of(numbers, hyper);
+    let hyper = hyper_in(numbers).unwrap();
     Model {
         hyper,
-        flows,
-        packets,
+        flows: flows_of(mesh, numbers),
+        packets: packets_of(numbers, hyper),
     }
 }

@@ -1,6 +1,7 @@
 -- Laws of the lowest number that passes, and of "some" and "every" number below n.
 -- In order: what `first_from` does; then `first` as the rest of the house uses it (its bounds, that it passes, that none
--- before it does, and how to show that a number is it); then `some` and `every`, each made from and taken apart.
+-- before it does, and how to show that a number is it); then `some` and `every`, each made from and taken apart;
+-- then `found`, made from and taken apart.
 use mathlib.Core.Path.{◌≡◌, refl, sym, ◌∙◌, ap}
 use mathlib.Core.Bool.{Bool, true, false, not}
 use Prim.Native.Nat.{ℕ, zero, suc, ◌+◌, ◌≤◌, ◌<◌}
@@ -9,7 +10,10 @@ use native.Mathlib.Decide.{dec_le}
 use lib.Dec.{ltb}
 use native.Mathlib.Omega.{arith}
 use borrow.Author.Tests.{ltb-true, ltb-false, lt-ltb, le-ltb, not-true, not-false}
-use Rattle.basics.specs.First.{first_from, first, some, every}
+use Rattle.std.proofs.Common.{Option, Some, None}
+use Rattle.std.specs.Option.{MatchOption}
+use Rattle.basics.specs.Choose.{choose}
+use Rattle.basics.specs.First.{first_from, first, some, every, found}
 
 -- ---- `first_from`
 
@@ -138,3 +142,43 @@ every_at test n h j k = not-false (test j) (none_passes (λ i. not (test i)) n (
 pub every_all : (test : ℕ → Bool) (n : ℕ) → ((j : ℕ) → j < n → test j ≡ true) → every test n ≡ true
 unfolding every
 every_all test n all = ap not (some_none (λ i. not (test i)) n (λ j h. ap not (all j h)))
+
+-- ---- `found`
+
+-- a number that passes, with none before it, is found
+pub found_is : (test : ℕ → Bool) (n i : ℕ) → i < n → test i ≡ true → ((j : ℕ) → j < i → test j ≡ false) → found test n ≡ Some i
+unfolding found
+found_is test n i h p none =
+    rw (some_at test n i h p) (ap (λ (k : ℕ). Some k) (first_is test n i h p none))
+
+-- where none passes none is found
+pub found_none : (test : ℕ → Bool) (n : ℕ) → ((j : ℕ) → j < n → test j ≡ false) → found test n ≡ None
+unfolding found
+found_none test n none = rw (some_none test n none) refl
+
+-- a number that is found is the first, and below n
+pub found_first : (test : ℕ → Bool) (n i : ℕ) → found test n ≡ Some i → (i < n) × (first test n ≡ i)
+unfolding found
+found_first test n i e = go (some test n) refl e
+  where
+    go : (b : Bool) → some test n ≡ b → choose b (Some (first test n)) None ≡ Some i → (i < n) × (first test n ≡ i)
+    go true s f = let q : first test n ≡ i = cc in (omega (arith, q, some_first test n s), q)
+    go false s f = let z : ◌≡◌ {A = ℕ} 0 1 = cc in absurd (omega arith)
+
+-- where none is found none passes
+pub found_not : (test : ℕ → Bool) (n : ℕ) → found test n ≡ None → (j : ℕ) → j < n → test j ≡ false
+unfolding found
+found_not test n e = go (some test n) refl e
+  where
+    go : (b : Bool) → some test n ≡ b → choose b (Some (first test n)) None ≡ None → (j : ℕ) → j < n → test j ≡ false
+    go true s f = let z : ◌≡◌ {A = ℕ} 0 1 = cc in absurd (omega arith)
+    go false s f = none_passes test n s
+
+-- what a search over the numbers from low to n gives is what is found, where none below low passes
+pub found_from : (test : ℕ → Bool) (low n : ℕ) (r : Option ℕ) → ((j : ℕ) → j < low → test j ≡ false)
+    → MatchOption r ((j : ℕ) → low ≤ j → j < n → test j ≡ false) (λ i. (low ≤ i) × (i < n) × (test i ≡ true) × ((j : ℕ) → low ≤ j → j < i → test j ≡ false))
+    → r ≡ found test n
+found_from test low n None before none =
+    sym (found_none test n (λ j h. elim (dec_le low j) [ yes l ↦ none j l h | no l ↦ before j (lt_of_not-le l) ]))
+found_from test low n (Some i) before w =
+    sym (found_is test n i w.1 w.2 (λ j h. elim (dec_le low j) [ yes l ↦ w.3 j l h | no l ↦ before j (lt_of_not-le l) ]))

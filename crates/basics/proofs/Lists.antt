@@ -5,8 +5,9 @@ use Prim.Native.Nat.{ℕ, zero, suc, ◌+◌, ◌-◌, ◌≤◌, ◌<◌}
 use native.Mathlib.Nat.{add-zero, zero-add, add-suc, suc-add, not-suc-le-zero, le_of_suc-le-suc}
 use native.Mathlib.Numerals.{add-one}
 use native.Mathlib.Omega.{arith}
-use lib.ListN.{length, get_or, set, take, replicate, length-append, length-replicate, get_or-append}
+use lib.ListN.{length, get_or, set, take, drop, replicate, length-append, length-replicate, get_or-append}
 use lib.Seq.{set_at, take_at}
+use Rattle.std.proofs.lemmas.List.{drop-replicate, ext_get_or}
 use Rattle.basics.specs.Lists.{tabulate, padded}
 
 -- ---- `tabulate`
@@ -94,3 +95,16 @@ padded_next {X = X} n fill f k h e d =
     ∙ ap (λ (i : ℕ). padded n fill (tabulate f 0 k ++ (f i ∷ []))) (sym (zero-add k))
     ∙ ap (padded n fill) (sym (tabulate_snoc f 0 k))
     ∙ ap (λ (i : ℕ). padded n fill (tabulate f 0 i)) (sym (add-one k))
+
+-- a list that holds the first entries of a rule is the rule's list
+pub tabulate_is {ℓ} : {X : Type ℓ} (f : ℕ → X) (n : ℕ) (d : X) (xs : List X) → length xs ≡ n → ((k : ℕ) → k < n → get_or xs k d ≡ f k) → xs ≡ tabulate f 0 n
+tabulate_is f n d xs e at =
+    ext_get_or d xs (tabulate f 0 n) (e ∙ sym (tabulate_length f 0 n))
+    (λ i h. let l : i < n = omega (arith, e) in at i l ∙ sym (tabulate_at f 0 n i d l ∙ ap f (zero-add i)))
+
+-- the first entries of a rule, written into the front of a list of one value
+pub padded_front : {X : Type 0} (m : ℕ) (fill : X) (f : ℕ → X) (n : ℕ) (d : X) (xs : List X) → length xs ≡ n → ((k : ℕ) → k < n → get_or xs k d ≡ f k)
+    → xs ++ drop n (replicate m fill) ≡ padded m fill (tabulate f 0 n)
+unfolding padded
+padded_front m fill f n d xs e at =
+    rw (drop-replicate n m fill, tabulate_is f n d xs e at, tabulate_length f 0 n) refl

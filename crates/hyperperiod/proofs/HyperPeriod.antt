@@ -1,6 +1,7 @@
 -- The hyper-period is the least common multiple of the periods, and `hyper_within` refuses it exactly above the limit.
 -- In order: the fold `lcm_with` (a multiple of its start and of every period, dividing every common multiple, positive);
 -- the same of `hyper_of`, H, with that it is the least; then `hyper_within` on both sides of the limit, and from a fold that passes it.
+use Rattle.std.proofs.Common.{Some, None}
 use mathlib.Core.Path.{◌≡◌}
 use mathlib.Core.List.{List, [], ◌∷◌}
 use Prim.Native.Nat.{ℕ, zero, suc, ◌≤◌, ◌<◌, ◌∣◌}
@@ -11,7 +12,6 @@ use lib.ListN.{length, get_or}
 use borrow.Author.Tests.{le-leb, lt-leb}
 use Rattle.hyperperiod.specs.Divisor.{lcm_of}
 use Rattle.hyperperiod.specs.Hyper.{lcm_with, hyper_of, hyper_within, most}
-use Rattle.hyperperiod.specs.declared.hyper.Hyper.TheVariants.{Is, Above}
 use Rattle.hyperperiod.proofs.Divisor.{lcm_multiple, lcm_least, lcm_positive}
 
 -- ---- `lcm_with`
@@ -67,20 +67,20 @@ module _ (ps : List ℕ) (low : Each (λ t. 0 < t) ps) where
 -- ---- `hyper_within`
 
 -- an H at the limit or below is the answer
-pub within_is : (ps : List ℕ) → hyper_of ps ≤ most → hyper_within ps ≡ Is (hyper_of ps)
+pub within_is : (ps : List ℕ) → hyper_of ps ≤ most → hyper_within ps ≡ Some (hyper_of ps)
 unfolding hyper_within
 within_is ps h = simp (le-leb (hyper_of ps) most h)
 
 -- an H above the limit is refused
-pub within_above : (ps : List ℕ) → most < hyper_of ps → hyper_within ps ≡ Above
+pub within_above : (ps : List ℕ) → most < hyper_of ps → hyper_within ps ≡ None
 unfolding hyper_within
 within_above ps h = simp (lt-leb (hyper_of ps) most h)
 
 -- and so is every H whose fold passes the limit on the way
-pub part_above : (ps : List ℕ) → Each (λ t. 0 < t) ps → (h : ℕ) (rest : List ℕ) → lcm_with h rest ≡ hyper_of ps → most < h → hyper_within ps ≡ Above
+pub part_above : (ps : List ℕ) → Each (λ t. 0 < t) ps → (h : ℕ) (rest : List ℕ) → lcm_with h rest ≡ hyper_of ps → most < h → hyper_within ps ≡ None
 part_above ps low h rest e above =
     within_above ps (lt_of_lt_of_le above (le_of_dvd (hyper_positive ps low) (rw e at (with_start h rest))))
 
 -- an H that is refused is above the limit
-pub above_only : (ps : List ℕ) → hyper_within ps ≡ Above → most < hyper_of ps
+pub above_only : (ps : List ℕ) → hyper_within ps ≡ None → most < hyper_of ps
 above_only ps e = elim (dec_le (hyper_of ps) most) [ yes h ↦ let z : ◌≡◌ {A = ℕ} 0 1 = cc (within_is ps h) in absurd (omega arith) | no h ↦ lt_of_not-le h ]

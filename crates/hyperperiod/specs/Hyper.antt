@@ -1,9 +1,7 @@
 -- The hyper-period: the least common multiple of all periods.
-use Rattle.std.specs.Prelude.{List, [], ◌∷◌, ℕ, ◌<◌, ◌≤◌, leb, length, get_or}
+use Rattle.std.specs.Prelude.{Option, Some, None, List, [], ◌∷◌, ℕ, ◌<◌, ◌≤◌, leb, length, get_or}
 use Rattle.basics.specs.Choose.{choose}
 use Rattle.hyperperiod.specs.Divisor.{lcm_of}
-use Rattle.hyperperiod.specs.declared.hyper.Hyper.{Hyper}
-use Rattle.hyperperiod.specs.declared.hyper.Hyper.TheVariants.{Is, Above}
 
 -- the least common multiple of h and all the periods, folded over them
 unfoldable pub lcm_with : ℕ → List ℕ → ℕ
@@ -18,9 +16,9 @@ hyper_of periods = lcm_with 1 periods
 abbrev pub most : ℕ
 most = 16777216
 
--- H, or that it is above the limit
-unfoldable pub hyper_within : List ℕ → Hyper
-hyper_within periods = choose (leb (hyper_of periods) most) (Is (hyper_of periods)) Above
+-- H, or none where it is above the limit
+unfoldable pub hyper_within : List ℕ → Option ℕ
+hyper_within periods = choose (leb (hyper_of periods) most) (Some (hyper_of periods)) None
 
 -- periods that are each 1 to the limit
 pub record Periods (periods : List ℕ) : Type 0 where

@@ -3,4 +3,4 @@
 
 mod hyper;
 
-pub use hyper::{Hyper, MOST, gcd, hyper_period};
+pub use hyper::{MOST, gcd, hyper_period};

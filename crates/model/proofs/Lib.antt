@@ -4,3 +4,4 @@ pub mod Packing
 pub mod Numbering
 pub mod InTime
 pub mod Determined
+pub mod Refusing

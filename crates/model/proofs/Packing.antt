@@ -1,5 +1,6 @@
 -- Laws of the sums: the list of all periods as an array that is filled from the front, and as what the hyper-period asks; H as it is
 -- found; and how many packets there are, with a bound that keeps the sum in 32 bits.
+use Rattle.std.proofs.Common.{Some}
 use mathlib.Core.Path.{◌≡◌, subst}
 use mathlib.Core.List.{List}
 use Prim.Native.Nat.{ℕ, zero, suc, ◌*◌, ◌≤◌}
@@ -12,24 +13,24 @@ use Rattle.basics.specs.Sums.{sum_of}
 use Rattle.basics.proofs.Lists.{tabulate_length, padded_take}
 use Rattle.time.specs.Units.{turns_of}
 use Rattle.hyperperiod.specs.Hyper.{most, hyper_of, hyper_within}
-use Rattle.hyperperiod.specs.declared.hyper.Hyper.TheVariants.{Is}
 use Rattle.hyperperiod.proofs.HyperPeriod.{within_is, within_above}
 use Rattle.model.specs.Flows.{period_of, flows_in}
 use Rattle.model.specs.Packets.{periods_of, hyper_in, turns_in}
 
 -- ---- all periods
 
--- the front of the array of periods is the list of them
-pub periods_front : (numbers : List ℕ) → take (flows_in numbers) (padded 64 0 (periods_of numbers)) ≡ periods_of numbers
+-- the front of an array that holds the periods is the list of them
+pub periods_front : (numbers : List ℕ) {all : List ℕ} → all ≡ padded 64 0 (periods_of numbers) → take (flows_in numbers) all ≡ periods_of numbers
 unfolding periods_of
-periods_front numbers =
-    subst (λ (k : ℕ). take k (padded 64 0 (periods_of numbers)) ≡ periods_of numbers) (tabulate_length (period_of numbers) 0 (flows_in numbers))
-    (padded_take 64 0 (periods_of numbers))
+periods_front numbers e =
+    rw e
+    (subst (λ (k : ℕ). take k (padded 64 0 (periods_of numbers)) ≡ periods_of numbers) (tabulate_length (period_of numbers) 0 (flows_in numbers))
+    (padded_take 64 0 (periods_of numbers)))
 
 -- ---- H
 
 -- an H that is found is the least common multiple, and at the limit or below
-pub is_only : (ps : List ℕ) (h : ℕ) → hyper_within ps ≡ Is h → (h ≡ hyper_of ps) × (h ≤ most)
+pub is_only : (ps : List ℕ) (h : ℕ) → hyper_within ps ≡ Some h → (h ≡ hyper_of ps) × (h ≤ most)
 is_only ps h e = elim (dec_le (hyper_of ps) most) [
   | yes l ↦ let q : h ≡ hyper_of ps = cc (within_is ps l) in (q, omega arith)
   | no l ↦ let z : ◌≡◌ {A = ℕ} 0 1 = cc (within_above ps (lt_of_not-le l)) in absurd (omega arith)

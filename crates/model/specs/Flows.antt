@@ -3,6 +3,7 @@ use Rattle.std.specs.Prelude.{List, ℕ, ◌+◌, ◌*◌, ◌/◌, length, get_
 use Rattle.mesh.specs.Node.{distance_of}
 use Rattle.routes.specs.Route.{route_of}
 use Rattle.time.specs.Units.{flits_of, occupancy_of}
+use Rattle.model.specs.declared.flows.Flow.{Flow}
 use Rattle.model.specs.declared.flows.Mesh.{Mesh}
 
 -- a flow is five numbers
@@ -32,6 +33,16 @@ size_of numbers f = number_of 3 numbers f
 -- a flow's deadline D
 unfoldable pub due_of : List ℕ → ℕ → ℕ
 due_of numbers f = number_of 4 numbers f
+
+-- flow f of the list: its five numbers by name
+unfoldable pub flow_of : List ℕ → ℕ → Flow
+flow_of numbers f = record {
+  source = source_of numbers f;
+  target = target_of numbers f;
+  period = period_of numbers f;
+  size = size_of numbers f;
+  due = due_of numbers f;
+}
 
 -- how many flows the list holds; they are numbered from 0 in the order given
 unfoldable pub flows_in : List ℕ → ℕ

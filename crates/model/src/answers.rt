@@ -1,16 +1,38 @@
-// The answer: eight fields, and a refusal as a number and a place.
+// The answer: eight fields; and the refusals, a case for each, with the number, place and other of each.
 ghost use Rattle.std.specs.Prelude.{◌≡◌};
-ghost use Rattle.model.specs.Answers.{refused_by};
+ghost use Rattle.model.specs.Answers.{refusal_number, refusal_place, refusal_other, refused_by};
 
-// A refusal by its number and place; number 0 is none.
-#[derive(Clone, Copy)]
-pub struct Refusal {
-    pub number: u32,
-    pub place: u32,
+// Why a model, its settings or a table is refused, in the order of document 01's numbers.
+#[derive(Clone, Copy, PartialEq, Eq, Debug)]
+pub enum Refusal {
+    // 1: the text is malformed, first at this line, from 1; 0 if it is over 8,192 bytes.
+    Malformed { line: u32 },
+    // 2: columns, rows, r or the flit width out of range.
+    BadMesh,
+    // 3: F or G out of range.
+    BadSettings,
+    // 4: flows not 1 to 64, or the list of numbers not whole flows.
+    BadList,
+    // 5: source or target no node, or the two equal.
+    BadNodes { flow: u32 },
+    // 6: T, size or D out of range.
+    BadTimes { flow: u32 },
+    // 7: the occupancy above D.
+    TooLong { flow: u32 },
+    // 8: H above 16,777,216.
+    LongHyper,
+    // 9: more than 1,024 packets.
+    ManyPackets,
+    // 10: the table shorter than the packets.
+    ShortTable,
+    // 11: the time of this packet, the lowest such, outside its start range.
+    Outside { packet: u32 },
+    // 12: this packet, the lowest such, collides with a higher-numbered one, of which other is the lowest.
+    Collision { packet: u32, other: u32 },
 }
 
 // An answer: a field that its number does not name is 0.
-#[derive(Clone, Copy)]
+#[derive(Clone, Copy, PartialEq, Eq, Debug, Default)]
 pub struct Answer {
     pub number: u32,
     pub place: u32,
@@ -22,18 +44,63 @@ pub struct Answer {
     pub skipped: u32,
 }
 
+impl Refusal {
+    // Its number in document 01.
+    #[tactic(auto, unfolding(crate::specs::Answers::refusal_number))]
+    pub fn number(self) -> u32
+        ensures { result ≡ refusal_number self }
+    {
+        match self {
+            Refusal::Malformed { .. } => 1,
+            Refusal::BadMesh => 2,
+            Refusal::BadSettings => 3,
+            Refusal::BadList => 4,
+            Refusal::BadNodes { .. } => 5,
+            Refusal::BadTimes { .. } => 6,
+            Refusal::TooLong { .. } => 7,
+            Refusal::LongHyper => 8,
+            Refusal::ManyPackets => 9,
+            Refusal::ShortTable => 10,
+            Refusal::Outside { .. } => 11,
+            Refusal::Collision { .. } => 12,
+        }
+    }
+
+    // Its place: the line, the flow or the packet that it names, or 0.
+    #[tactic(auto, unfolding(crate::specs::Answers::refusal_place))]
+    pub fn place(self) -> u32
+        ensures { result ≡ refusal_place self }
+    {
+        match self {
+            Refusal::Malformed { line } => line,
+            Refusal::BadNodes { flow } | Refusal::BadTimes { flow } | Refusal::TooLong { flow } =>
+                flow,
+            Refusal::Outside { packet } | Refusal::Collision { packet, .. } => packet,
+            _ => 0,
+        }
+    }
+
+    // The other packet of a collision, or 0.
+    #[tactic(auto, unfolding(crate::specs::Answers::refusal_other))]
+    pub fn other(self) -> u32
+        ensures { result ≡ refusal_other self }
+    {
+        match self {
+            Refusal::Collision { other, .. } => other,
+            _ => 0,
+        }
+    }
+}
+
 // The answer of a refusal.
+#[tactic(auto, unfolding(crate::specs::Answers::refused_by))]
 pub fn refused(refusal: Refusal) -> Answer
     ensures { result ≡ refused_by refusal }
 {
     Answer {
-        number: refusal.number,
-        place: refusal.place,
-        other: 0,
-        hyper: 0,
-        packets: 0,
-        passes: 0,
-        tries: 0,
-        skipped: 0,
+        number: refusal.number(),
+        place: refusal.place(),
+        other: refusal.other(),
+        ..Answer::default()
     }
 }

@@ -1,6 +1,6 @@
 // Mesh numbers, and flows as one list of numbers, so many to a flow.
-ghost use Rattle.std.specs.Prelude.{◌≡◌, ◌+◌, ◌*◌, ◌<◌, length};
-ghost use Rattle.model.specs.Flows.{per_flow, number_of, occupancy_in};
+ghost use Rattle.std.specs.Prelude.{◌≡◌, ◌+◌, ◌*◌, ◌≤◌, length};
+ghost use Rattle.model.specs.Flows.{per_flow, flow_of, occupancy_in};
 ghost use Rattle.model.specs.Fair.{Sized};
 
 use time::{Bytes, Cycles, flits_of, occupancy};
@@ -17,12 +17,29 @@ pub struct Mesh {
     pub flit: u32,
 }
 
-// Number i of flow f: source, target, period, size, deadline.
-pub fn number_of(numbers: &[u32], f: usize, i: usize) -> u32
-    requires { per_flow * f + i < length numbers.now }
-    ensures { result ≡ number_of i numbers.now f }
+// A flow: its source and target nodes, its period and deadline in cycles, its size in bytes.
+#[derive(Clone, Copy)]
+pub struct Flow {
+    pub source: u32,
+    pub target: u32,
+    pub period: u32,
+    pub size: u32,
+    pub due: u32,
+}
+
+// Flow f of the list: its five numbers, in this order.
+pub fn flow_of(numbers: &[u32], f: usize) -> Flow
+    requires { per_flow * f + per_flow ≤ length numbers.now }
+    ensures { result ≡ flow_of numbers.now f }
 {
-    numbers[PER_FLOW * f + i]
+    let at = PER_FLOW * f;
+    Flow {
+        source: numbers[at],
+        target: numbers[at + 1],
+        period: numbers[at + 2],
+        size: numbers[at + 3],
+        due: numbers[at + 4],
+    }
 }
 
 // The occupancy of flow f's packets.
@@ -30,13 +47,15 @@ pub fn occupancy_of(mesh: Mesh, numbers: &[u32], f: usize) -> Cycles
     requires { Sized mesh numbers.now f }
     ensures { result.0 ≡ occupancy_in mesh numbers.now f }
 {
-    let source = number_of(numbers, f, 0);
-    let target = number_of(numbers, f, 1);
-    let size = number_of(numbers, f, 3);
-    let m = mesh::distance(mesh.columns as usize, source as usize, target as usize);
+    let flow = flow_of(numbers, f);
+    let m = mesh::distance(
+        mesh.columns as usize,
+        flow.source as usize,
+        flow.target as usize,
+    );
     occupancy(
         Cycles(mesh.r),
         m as u32,
-        flits_of(Bytes(size), Bytes(mesh.flit)),
+        flits_of(Bytes(flow.size), Bytes(mesh.flit)),
     )
 }

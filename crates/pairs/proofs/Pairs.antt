@@ -1,47 +1,37 @@
 -- The lowest pair that collides, as the walk over the packets finds it.
-use mathlib.Core.Path.{◌≡◌, sym, ◌∙◌, ap, ap₂}
+use Rattle.std.proofs.Common.{Some, None}
+use mathlib.Core.Path.{◌≡◌, refl, ◌∙◌, ap}
 use mathlib.Core.Bool.{false}
 use mathlib.Core.List.{List}
-use Prim.Native.Nat.{ℕ, ◌≤◌, ◌<◌}
+use Prim.Native.Nat.{ℕ, ◌<◌}
 use native.Mathlib.Omega.{arith}
-use borrow.Author.Tests.{lt-ltb, le-ltb}
-use Rattle.basics.specs.First.{first, some}
-use Rattle.basics.proofs.First.{first_le, first_is, first_none}
+use borrow.Author.Tests.{lt-ltb}
+use Rattle.std.specs.Option.{option_map}
+use Rattle.basics.specs.First.{first, some, found}
+use Rattle.basics.proofs.First.{some_none, found_is, found_none, found_first, found_not}
 use Rattle.arrays.specs.declared.build.Flows.{Flows}
 use Rattle.arrays.specs.declared.build.Packets.{Packets}
 use Rattle.pairs.specs.Scan.{meets_in, higher_in, first_pair}
 use Rattle.pairs.specs.declared.scan.Pair.{Pair}
-use Rattle.pairs.proofs.Walks.{not_lower}
 
 module _ (flows : Flows) (packets : Packets) (table : List ℕ) where
-  -- a packet whose lowest partner is no packet meets no higher one
-  pub none_higher : (a b : ℕ) → b ≡ first (meets_in flows packets table a) packets.count → packets.count ≤ b → higher_in flows packets table a ≡ false
-  unfolding higher_in some
-  none_higher a b e h = le-ltb (first (meets_in flows packets table a) packets.count) packets.count (omega (arith, e))
+  -- a packet without a partner meets no higher one
+  pub none_higher : (a : ℕ) → found (meets_in flows packets table a) packets.count ≡ None → higher_in flows packets table a ≡ false
+  unfolding higher_in
+  none_higher a e = some_none (meets_in flows packets table a) packets.count (found_not (meets_in flows packets table a) packets.count e)
 
   -- the first packet with a partner, and its lowest partner
-  pub pair_found : (a b : ℕ) → a < packets.count → b ≡ first (meets_in flows packets table a) packets.count → b < packets.count
-      → ((k : ℕ) → k < a → higher_in flows packets table k ≡ false) → record { a = a; b = b } ≡ first_pair flows packets table
+  pub pair_found : (a b : ℕ) → a < packets.count → found (meets_in flows packets table a) packets.count ≡ Some b
+      → ((k : ℕ) → k < a → higher_in flows packets table k ≡ false) → first_pair flows packets table ≡ Some (record { a = a; b = b })
   unfolding higher_in some first_pair
-  pair_found a b h e l none =
-      let e' : first (higher_in flows packets table) packets.count ≡ a =
-      first_is (higher_in flows packets table) packets.count a h (lt-ltb (first (meets_in flows packets table a) packets.count) packets.count (omega (arith, e))) none
-      in
-      ap₂ {C = Pair} (λ (x y : ℕ). record { a = x; b = y }) (sym e') (e ∙ ap (λ (x : ℕ). first (meets_in flows packets table x) packets.count) (sym e'))
+  pair_found a b h e none =
+      let own = found_first (meets_in flows packets table a) packets.count b e in
+      let met = lt-ltb (first (meets_in flows packets table a) packets.count) packets.count (omega (arith, own.0, own.1)) in
+      let pair : ℕ → ℕ → Pair = λ x y. record { a = x; b = y } in
+      ap (option_map (λ x. record { a = x; b = first (meets_in flows packets table x) packets.count })) (found_is (higher_in flows packets table) packets.count a h met none)
+      ∙ ap (λ (y : ℕ). Some (pair a y)) own.1
 
   -- no packet has a partner
-  pub pair_none : ((k : ℕ) → k < packets.count → higher_in flows packets table k ≡ false)
-      → record { a = packets.count; b = packets.count } ≡ first_pair flows packets table
+  pub pair_none : ((k : ℕ) → k < packets.count → higher_in flows packets table k ≡ false) → first_pair flows packets table ≡ None
   unfolding first_pair
-  pair_none none =
-      let n = packets.count in
-      let e : first (higher_in flows packets table) n ≡ n = first_none (higher_in flows packets table) n none in
-      let e' : first (meets_in flows packets table n) n ≡ n =
-      first_none (meets_in flows packets table n) n (λ k h. not_lower flows packets table n k (omega arith))
-      in
-      ap₂ {C = Pair} (λ (x y : ℕ). record { a = x; b = y }) (sym e) (sym e' ∙ ap (λ (x : ℕ). first (meets_in flows packets table x) n) (sym e))
-
-  -- a found pair is of two packets
-  pub pair_small : (p : Pair) → p ≡ first_pair flows packets table → p.b ≤ packets.count
-  unfolding first_pair
-  pair_small p e = omega (arith, ap (λ (q : Pair). q.b) e, first_le (meets_in flows packets table (first (higher_in flows packets table) packets.count)) packets.count)
+  pair_none none = rw (found_none (higher_in flows packets table) packets.count none) refl

@@ -1,5 +1,5 @@
 -- The tests of the walk over pairs, as the code takes them apart: two packets whose windows overlap and whose paths share a link.
-use mathlib.Core.Path.{◌≡◌, ap}
+use mathlib.Core.Path.{◌≡◌, refl, ap}
 use mathlib.Core.Bool.{Bool, true, false}
 use mathlib.Core.List.{List}
 use Prim.Native.Nat.{ℕ, ◌+◌, ◌≤◌, ◌<◌}
@@ -7,7 +7,7 @@ use native.Mathlib.Omega.{arith}
 use lib.Dec.{ltb}
 use borrow.Author.Tests.{lt-ltb, le-ltb, not-false}
 use Rattle.basics.specs.Choose.{both}
-use Rattle.basics.proofs.Choose.{both_pass, both_not}
+use Rattle.basics.proofs.Choose.{both_not}
 use Rattle.routes.specs.Share.{shares}
 use Rattle.time.specs.Window.{overlaps}
 use Rattle.hyperperiod.specs.Hyper.{most}
@@ -47,14 +47,9 @@ module _ (flows : Flows) (packets : Packets) (table : List ℕ) (a : ℕ) where
   not_overlapping b e =
       both_not (ltb a b) _ (ap (λ (t : Bool). both t (shares (packet_in flows packets a).path (packet_in flows packets b).path)) e)
 
-  -- packets whose paths share no link do not collide
-  pub not_sharing : (b : ℕ) → shares (packet_in flows packets a).path (packet_in flows packets b).path ≡ false → meets_in flows packets table a b ≡ false
-  unfolding meets_in collide
-  not_sharing b e = both_not (ltb a b) _ (both_not (overlaps (time_at table a) _ (time_at table b) _) _ e)
-
-  -- a higher packet whose window overlaps and whose path shares a link is met
-  pub met : (b : ℕ) → a < b
+  -- a higher packet whose window overlaps is met exactly where its path shares a link
+  pub overlapping : (b : ℕ) → a < b
       → overlaps (time_at table a) (packet_in flows packets a).occupancy (time_at table b) (packet_in flows packets b).occupancy ≡ true
-      → shares (packet_in flows packets a).path (packet_in flows packets b).path ≡ true → meets_in flows packets table a b ≡ true
+      → meets_in flows packets table a b ≡ shares (packet_in flows packets a).path (packet_in flows packets b).path
   unfolding meets_in collide
-  met b h o s = both_pass _ _ (lt-ltb a b h) (both_pass _ _ o s)
+  overlapping b h o = rw (lt-ltb a b h, o) refl

@@ -1,6 +1,8 @@
 // The walk over the pairs of packets for a collision.
 ghost use Rattle.std.specs.Prelude.{◌≡◌, ◌<◌};
-ghost use Rattle.basics.specs.First.{first};
+ghost use Rattle.basics.specs.First.{found};
+ghost use Rattle.packet.specs.Table.{time_at};
+ghost use Rattle.arrays.specs.Arrays.{packet_in};
 ghost use Rattle.pairs.specs.Scan.{meets_in, first_pair, Timely};
 
 use arrays::{Flows, Packets};
@@ -14,45 +16,48 @@ pub struct Pair {
     pub b: usize,
 }
 
-// The lowest packet above a that a collides with, or the number of packets. Windows are compared before links.
-fn next_meeting(flows: Flows, packets: Packets, table: &[u32], a: usize) -> usize
-    requires { Timely flows packets table.now × (a < packets.count) }
-    ensures { result ≡ first (meets_in flows packets table.now a) packets.count }
+// The cycles in which packet p is held.
+fn window_of(flows: &Flows, packets: &Packets, table: &[u32], p: usize) -> Window
+    requires { Timely flows.now packets.now table.now × (p < packets.now.count) }
+    ensures start { result.start.0 ≡ time_at table.now p }
+    ensures span { result.span.0 ≡ (packet_in flows.now packets.now p).occupancy }
 {
-    let n = packets.count;
-    let f = packets.flow[a] as usize;
-    let window = Window {
-        start: Cycles(table[a]),
-        span: Cycles(flows.occupancy[f]),
-    };
-    let path = flows.path[f];
-    for b in a + 1..n {
-        let g = packets.flow[b] as usize;
-        let other = Window {
-            start: Cycles(table[b]),
-            span: Cycles(flows.occupancy[g]),
-        };
-        if overlap(window, other) {
-            let crossed = flows.path[g];
-            if share(path, crossed) {
-                return b;
-            }
-        }
+    Window {
+        start: Cycles(table[p]),
+        span: Cycles(flows.occupancy[packets.flow[p] as usize]),
     }
-    n
 }
 
-// The lowest packet that collides with a higher-numbered one, and the lowest such; the number of packets for both if none does.
-pub fn first_meeting(flows: Flows, packets: Packets, table: &[u32]) -> Pair
+// Whether packet a collides with the higher-numbered packet b. Windows are compared before links.
+fn meets(flows: &Flows, packets: &Packets, table: &[u32], a: usize, b: usize) -> bool
+    requires { Timely flows.now packets.now table.now × (a < b) × (b < packets.now.count) }
+    ensures { result ≡ meets_in flows.now packets.now table.now a b }
+{
+    let f = packets.flow[a] as usize;
+    let g = packets.flow[b] as usize;
+    overlap(
+        window_of(flows, packets, table, a),
+        window_of(flows, packets, table, b),
+    ) && share(flows.path[f], flows.path[g])
+}
+
+// The lowest packet above a that a collides with, or none.
+fn next_meeting(flows: &Flows, packets: &Packets, table: &[u32], a: usize) -> Option<usize>
+    requires { Timely flows.now packets.now table.now × (a < packets.now.count) }
+    ensures { result ≡ found (meets_in flows.now packets.now table.now a) packets.now.count }
+{
+    (a + 1..packets.count).find(|&b| meets(flows, packets, table, a, b))
+}
+
+// The lowest packet that collides with a higher-numbered one, and the lowest such, or none.
+pub fn first_meeting(flows: Flows, packets: Packets, table: &[u32]) -> Option<Pair>
     requires { Timely flows packets table.now }
     ensures { result ≡ first_pair flows packets table.now }
 {
-    let n = packets.count;
-    for a in 0..n {
-        let b = next_meeting(flows, packets, table, a);
-        if b < n {
-            return Pair { a, b };
+    for a in 0..packets.count {
+        if let Some(b) = next_meeting(&flows, &packets, table, a) {
+            return Some(Pair { a, b });
         }
     }
-    Pair { a: n, b: n }
+    None
 }

@@ -1,27 +1,28 @@
 // The walk over the packets for a time out of range.
 ghost use Rattle.std.specs.Prelude.{◌≡◌, ◌<◌};
-ghost use Rattle.basics.specs.First.{first};
+ghost use Rattle.basics.specs.First.{found};
 ghost use Rattle.ranges.specs.Ranges.{strays, Scan};
 
 use arrays::{Flows, Packets};
 
-// The lowest packet whose time is outside its start range, or the number of packets.
-pub fn first_outside(flows: Flows, packets: Packets, table: &[u32]) -> usize
-    requires { Scan flows packets table.now }
-    ensures { result ≡ first (strays flows packets table.now) packets.count }
+// Whether packet p may not start at its time.
+fn strays(flows: Flows, packets: Packets, table: &[u32], p: usize) -> bool
+    requires { Scan flows packets table.now × (p < packets.count) }
+    ensures { result ≡ strays flows packets table.now p }
 {
-    let n = packets.count;
-    for p in 0..n {
-        let f = packets.flow[p] as usize;
-        let release = packets.release[p];
-        let latest = release + flows.due[f] - flows.occupancy[f];
-        let time = table[p];
-        if time < release {
-            return p;
-        }
-        if latest < time {
-            return p;
-        }
-    }
-    n
+    let f = packets.flow[p] as usize;
+    let release = packets.release[p];
+    let latest = release + flows.due[f] - flows.occupancy[f];
+    let time = table[p];
+    let early = time < release;
+    let late = latest < time;
+    early || late
+}
+
+// The lowest packet whose time is outside its start range, or none.
+pub fn first_outside(flows: Flows, packets: Packets, table: &[u32]) -> Option<usize>
+    requires { Scan flows packets table.now }
+    ensures { result ≡ found (strays flows packets table.now) packets.count }
+{
+    (0..packets.count).find(|&p| strays(flows, packets, table, p))
 }

@@ -7,49 +7,55 @@ use Prim.Native.Nat.{ℕ, ◌≤◌, ◌<◌}
 use native.Mathlib.Omega.{arith}
 use lib.Dec.{ltb}
 use borrow.Author.Tests.{ltb-true}
+use Rattle.std.specs.Prelude.{Ok, Err}
 use Rattle.basics.specs.Choose.{choose}
 use Rattle.basics.specs.First.{first}
 use Rattle.basics.proofs.First.{first_least}
 use Rattle.model.specs.Flows.{flows_in}
-use Rattle.refusals.specs.Refusals.{bad_flow, accepted, flow_refusal, flows_refusal, sums_refusal, refusal_of}
+use Rattle.model.specs.Answers.{refusal_number, refusal_place}
+use Rattle.refusals.specs.Refusals.{Tested, bad_flow, accepted, refuse_if, flow_refusal, flows_refusal, sums_refusal, refusal_of}
 use Rattle.model.specs.Fair.{FairFlow}
 use Rattle.model.specs.declared.flows.Mesh.{Mesh}
 use Rattle.model.specs.declared.answers.Refusal.{Refusal}
-use Rattle.refusals.proofs.Order.{refuse_holds, or_holds}
+use Rattle.model.specs.declared.answers.Refusal.TheVariants.{BadMesh, BadList, LongHyper, ManyPackets}
+use Rattle.refusals.proofs.Order.{refuse_holds, and_holds}
 use Rattle.refusals.proofs.Accepted.{flow_fair, good_flow}
 
--- flow f is refused by number n, 5 to 7, its own first test that passes; and every flow before it passes
-pub record Lowest (mesh : Mesh) (numbers : List ℕ) (f n : ℕ) : Type 0 where
+-- flow f is refused by 5, 6 or 7, its own first test that passes, with f as the place; and every flow before it passes
+pub record Lowest (mesh : Mesh) (numbers : List ℕ) (f : ℕ) (refusal : Refusal) : Type 0 where
   pub listed : f < flows_in numbers
-  pub low : 5 ≤ n
-  pub high : n ≤ 7
-  pub own : flow_refusal mesh numbers f ≡ record { number = n; place = f }
+  pub own : flow_refusal mesh numbers f ≡ Err refusal
+  pub low : 5 ≤ refusal_number refusal
+  pub high : refusal_number refusal ≤ 7
+  pub place : refusal_place refusal ≡ f
   pub before : (j : ℕ) → j < f → FairFlow mesh numbers j
 
 -- the refusals that a model can meet
-pub data Given (mesh : Mesh) (between : Refusal) (numbers : List ℕ) : Refusal → Type 0 where
+pub data Given (mesh : Mesh) (between : Tested) (numbers : List ℕ) : Tested → Type 0 where
   none : Given mesh between numbers accepted
-  bad_mesh_case : Given mesh between numbers (record { number = 2; place = 0 })
+  bad_mesh_case : Given mesh between numbers (Err BadMesh)
   caller : Given mesh between numbers between
-  bad_list_case : Given mesh between numbers (record { number = 4; place = 0 })
-  flow : (f n : ℕ) → Lowest mesh numbers f n → Given mesh between numbers (record { number = n; place = f })
-  long_hyper : Given mesh between numbers (record { number = 8; place = 0 })
-  many_packets : Given mesh between numbers (record { number = 9; place = 0 })
+  bad_list_case : Given mesh between numbers (Err BadList)
+  flow : (f : ℕ) (refusal : Refusal) → Lowest mesh numbers f refusal → Given mesh between numbers (Err refusal)
+  long_hyper : Given mesh between numbers (Err LongHyper)
+  many_packets : Given mesh between numbers (Err ManyPackets)
 
-module _ (mesh : Mesh) (between : Refusal) (numbers : List ℕ) where
+module _ (mesh : Mesh) (between : Tested) (numbers : List ℕ) where
+  -- the refusal of a flow is 5, 6 or 7, and its place is the flow
+  of_the_flow : (f : ℕ) (r : Refusal) → flow_refusal mesh numbers f ≡ Err r
+      → (5 ≤ refusal_number r) × (refusal_number r ≤ 7) × (refusal_place r ≡ f)
+  unfolding flow_refusal refuse_if refusal_number refusal_place
+  of_the_flow f r e = (grind arith, grind arith, grind arith)
+
   -- the first refused flow is given with its own refusal
   flow_given : (f : ℕ) → f < flows_in numbers → ((j : ℕ) → j < f → FairFlow mesh numbers j) → Given mesh between numbers (flow_refusal mesh numbers f)
-  unfolding flow_refusal
-  flow_given f h fair =
-      or_holds P _ _ (refuse_holds P _ 5 f (row 5 (omega arith)) (λ e. none))
-      (or_holds P _ _ (refuse_holds P _ 6 f (row 6 (omega arith)) (λ e. none)) (refuse_holds P _ 7 f (row 7 (omega arith)) (λ e. none)))
-      refl
+  flow_given f h fair = go (flow_refusal mesh numbers f) refl
     where
-      P : Refusal → Type 0
-      P r = flow_refusal mesh numbers f ≡ r → Given mesh between numbers r
-
-      row : (n : ℕ) → (5 ≤ n) × (n ≤ 7) → P (record { number = n; place = f })
-      row n b e = flow f n (record { listed = h; low = b.0; high = b.1; own = e; before = fair })
+      go : (t : Tested) → flow_refusal mesh numbers f ≡ t → Given mesh between numbers t
+      go (Ok x) e = none
+      go (Err r) e =
+          let w = of_the_flow f r e in
+          flow f r (record { listed = h; own = e; low = w.0; high = w.1; place = w.2; before = fair })
 
   -- the flows together are refused by the lowest that is
   flows_given : Given mesh between numbers (flows_refusal mesh numbers)
@@ -68,11 +74,11 @@ module _ (mesh : Mesh) (between : Refusal) (numbers : List ℕ) where
   pub refusal_given : Given mesh between numbers (refusal_of mesh between numbers)
   unfolding refusal_of sums_refusal
   refusal_given =
-      or_holds P _ _ (refuse_holds P _ 2 0 bad_mesh_case none)
-      (or_holds P _ _ caller
-      (or_holds P _ _ (refuse_holds P _ 4 0 bad_list_case none)
-      (or_holds P _ _ flows_given
-      (or_holds P _ _ (refuse_holds P _ 8 0 long_hyper none) (refuse_holds P _ 9 0 many_packets none)))))
+      and_holds P _ _ (refuse_holds P _ BadMesh bad_mesh_case none)
+      (and_holds P _ _ caller
+      (and_holds P _ _ (refuse_holds P _ BadList bad_list_case none)
+      (and_holds P _ _ flows_given
+      (and_holds P _ _ (refuse_holds P _ LongHyper long_hyper none) (refuse_holds P _ ManyPackets many_packets none)))))
     where
-      P : Refusal → Type 0
+      P : Tested → Type 0
       P = Given mesh between numbers

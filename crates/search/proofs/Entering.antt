@@ -1,30 +1,26 @@
--- The answer of the search and the table that it leaves, on each way through it: refused by the model or the settings, refused for a
--- short table, or found.
+-- The answer of the search and the table that it leaves, where neither the model, the settings nor the table is refused.
 use mathlib.Core.Path.{◌≡◌, refl, sym, ◌∙◌, ap, ap₂, subst}
-use mathlib.Core.Bool.{true, false, not}
+use mathlib.Core.Bool.{false, not}
 use mathlib.Core.List.{List, ◌++◌}
 use Prim.Native.Nat.{ℕ, ◌≤◌, ◌<◌}
 use native.Mathlib.Omega.{arith}
 use lib.Dec.{eqb}
 use lib.ListN.{length, take, drop}
 use lib.Seq.{get_or-take}
-use borrow.Author.Tests.{eq-eqb, ne_eqb, lt-ltb, le-ltb}
+use borrow.Author.Tests.{le-ltb}
 use Rattle.basics.specs.First.{first}
 use Rattle.basics.specs.Sums.{count_of}
 use Rattle.basics.proofs.First.{first_same}
 use Rattle.packet.specs.Packet.{Packet}
 use Rattle.model.specs.Packets.{hyper_in, packets_in, packets_of}
 use Rattle.limits.specs.Limits.{out_of_range}
-use Rattle.refusals.specs.Refusals.{refuse_if, refusal_of}
-use Rattle.model.specs.Answers.{refused_by}
+use Rattle.refusals.specs.Refusals.{Tested, accepted, refuse_if, refusal_of}
 use Rattle.model.specs.Fair.{Fair}
 use Rattle.arrays.specs.Arrays.{model_of, packets_read}
 use Rattle.model.specs.declared.flows.Mesh.{Mesh}
-use Rattle.model.specs.declared.answers.Refusal.{Refusal}
 use Rattle.arrays.specs.declared.build.Model.{Model}
 use Rattle.basics.proofs.Choose.{neither}
 use Rattle.limits.proofs.Past.{inside}
-use Rattle.refusals.proofs.Order.{refuse_none, or_next, or_stays}
 use Rattle.refusals.proofs.Accepted.{accepted_fair, accepted_between}
 use Rattle.model.proofs.Numbering.{packets_length}
 use Rattle.arrays.proofs.Reading.{model_count, packets_read_lem}
@@ -40,49 +36,18 @@ use Rattle.search.proofs.Modelling.{fair_modelled}
 
 module _ (mesh : Mesh) (f g : ℕ) (numbers table : List ℕ) where
   -- what the model and the settings refuse
-  abbrev start : Refusal
+  abbrev start : Tested
   start = refusal_of mesh (settings_refusal f g) numbers
 
-  -- so it is as the code asks: the settings first, then the model
-  pub judged : {first settings : Refusal} → first ≡ refusal_of mesh settings numbers → settings ≡ settings_refusal f g → first ≡ refusal_of mesh (settings_refusal f g) numbers
-  judged e d = e ∙ ap (λ (r : Refusal). refusal_of mesh r numbers) d
-
-  -- a refusal is the answer, and nothing is written
-  answers_refused : ((search_refusal mesh f g numbers table).number ≡ 0 → ⊥)
-      → (refused_by (search_refusal mesh f g numbers table) ≡ answer_of mesh f g numbers table) × (table ≡ table_after mesh f g numbers table)
-  unfolding answer_of table_after
-  answers_refused e =
-      let z = ne_eqb (search_refusal mesh f g numbers table).number 0 e in
-      (sym (rw (z, answer_of) refl), sym (rw (z, table_after) refl))
-
-  -- refused by the model or the settings
-  pub entry_refused : (start.number ≡ 0 → ⊥)
-      → (refused_by start ≡ answer_of mesh f g numbers table) × (table ≡ table_after mesh f g numbers table)
-  unfolding search_refusal
-  entry_refused e =
-      let is : search_refusal mesh f g numbers table ≡ start = or_stays start _ e in
-      let r = answers_refused (λ z. e (ap (λ (x : Refusal). x.number) (sym is) ∙ z)) in
-      (ap refused_by (sym is) ∙ r.0, r.1)
-
-  -- refused for a short table
-  pub entry_short : start.number ≡ 0 → length table < packets_in numbers
-      → (refused_by record { number = 10; place = 0 } ≡ answer_of mesh f g numbers table) × (table ≡ table_after mesh f g numbers table)
-  unfolding search_refusal refuse_if bad_table
-  entry_short e h =
-      let is : search_refusal mesh f g numbers table ≡ record { number = 10; place = 0 } =
-      or_next start _ e ∙ rw (lt-ltb (length table) (packets_in numbers) h) refl in
-      let r = answers_refused (λ z. let y : ◌≡◌ {A = ℕ} 10 0 = ap (λ (x : Refusal). x.number) (sym is) ∙ z in omega arith) in
-      (ap refused_by (sym is) ∙ r.0, r.1)
-
-  module _ (e : start.number ≡ 0) where
+  module _ (e : start ≡ accepted) where
     -- a model that is not refused has every number in its range
     pub entry_fair : Fair mesh numbers
     entry_fair = accepted_fair mesh (settings_refusal f g) numbers e
 
     -- and so are the settings
     settings : bad_settings f g ≡ false
-    unfolding settings_refusal
-    settings = refuse_none (bad_settings f g) 3 0 (omega arith) (accepted_between mesh (settings_refusal f g) numbers e)
+    unfolding settings_refusal refuse_if
+    settings = let s = accepted_between mesh (settings_refusal f g) numbers e in grind arith
 
     -- so the model is what the search asks
     pub entry_modelled : Modelled (model_of mesh numbers) f g
@@ -98,22 +63,15 @@ module _ (mesh : Mesh) (f g : ℕ) (numbers table : List ℕ) where
     entry_count = model_count mesh numbers entry_fair
 
     module _ (h : packets_in numbers ≤ length table) where
-      -- nothing refuses
-      not_refused : eqb (search_refusal mesh f g numbers table).number 0 ≡ true
-      unfolding search_refusal refuse_if bad_table
-      not_refused =
-          eq-eqb (search_refusal mesh f g numbers table).number 0
-          (ap (λ (x : Refusal). x.number) (or_next start _ e) ∙ rw (le-ltb (length table) (packets_in numbers) h) refl)
-
       -- the answer is of the search
       answer_is : answer_of mesh f g numbers table ≡ found_answer numbers (packets_of mesh numbers) (search_of (packets_of mesh numbers) f g)
-      unfolding answer_of
-      answer_is = rw (not_refused, answer_of) refl
+      unfolding answer_of search_refusal refuse_if bad_table
+      answer_is = rw (e, le-ltb (length table) (packets_in numbers) h)
 
       -- and so is the table
       table_is : table_after mesh f g numbers table ≡ (search_of (packets_of mesh numbers) f g).table ++ drop (packets_in numbers) table
-      unfolding table_after
-      table_is = rw (not_refused, table_after) refl
+      unfolding table_after search_refusal refuse_if bad_table
+      table_is = rw (e, le-ltb (length table) (packets_in numbers) h)
 
 -- what is not placed is the same in the array and in the table
 unplaced_same : (n : ℕ) (times : List ℕ) (q : ℕ) → q < n → not (placed times q) ≡ not (placed (take n times) q)
@@ -135,7 +93,7 @@ report_is numbers ps found fd hyper n e eh el en =
     let tries = ap (λ (x : Found). x.tries) e in
     rw (count, lowest, passes, tries, eh, en) refl
 
-module _ (mesh : Mesh) (f g : ℕ) (numbers table : List ℕ) (e : (refusal_of mesh (settings_refusal f g) numbers).number ≡ 0) (model : Model)
+module _ (mesh : Mesh) (f g : ℕ) (numbers table : List ℕ) (e : refusal_of mesh (settings_refusal f g) numbers ≡ accepted) (model : Model)
     (is : model ≡ model_of mesh numbers) where
   -- the model of the code is what the search asks
   pub model_holds : Modelled model f g

@@ -1,16 +1,16 @@
 -- What the answer of the search promises: 0 leaves a table that passes; 13 leaves one whose placed packets are in range and do not
 -- collide, and its place is the lowest skipped packet; every other number leaves the table as it was.
--- In order: tables that are read no further than the packets; the numbers of refusals; and the three theorems.
+-- In order: tables that are read no further than the packets; and the three theorems.
 use mathlib.Core.Path.{◌≡◌, refl, sym, ◌∙◌, ap, subst}
 use mathlib.Core.Bool.{Bool, true, false, not}
 use mathlib.Core.List.{List, ◌++◌}
 use Prim.Native.Nat.{ℕ, zero, suc, ◌+◌, ◌≤◌, ◌<◌}
-use native.Mathlib.Nat.{lt_of_not-le, le_trans}
+use native.Mathlib.Nat.{lt_of_not-le}
 use native.Mathlib.Decide.{dec_le}
 use native.Mathlib.Omega.{arith}
-use lib.Dec.{ltb, eqb}
+use lib.Dec.{eqb}
 use lib.ListN.{length, get_or, drop, get_or-append}
-use borrow.Author.Tests.{eqb-true, eqb-false, not-true, not-false}
+use borrow.Author.Tests.{eqb-true, not-true, not-false}
 use Rattle.basics.specs.Choose.{as_number}
 use Rattle.basics.specs.First.{first}
 use Rattle.basics.specs.Sums.{sum_of, count_of}
@@ -18,14 +18,13 @@ use Rattle.basics.proofs.First.{first_passes, first_least}
 use Rattle.packet.specs.Packet.{Packet}
 use Rattle.packet.specs.Table.{packet_at, time_at, passes, none, placed}
 use Rattle.model.specs.Packets.{packets_in, packets_of}
-use Rattle.model.specs.Flows.{flows_in}
-use Rattle.limits.specs.Limits.{bad_mesh, bad_list, bad_nodes, bad_times, too_long}
-use Rattle.refusals.specs.Refusals.{bad_hyper, bad_packets, bad_flow, refuse_if, or_else, flow_refusal, flows_refusal, sums_refusal, refusal_of}
-use Rattle.model.specs.Answers.{refused_by}
+use Rattle.refusals.specs.Refusals.{Tested, accepted, refusal_of}
+use Rattle.std.specs.Prelude.{Ok, Err}
+use Rattle.model.specs.Answers.{refused_by, refusal_number}
 use Rattle.model.specs.declared.flows.Mesh.{Mesh}
 use Rattle.model.specs.declared.answers.Refusal.{Refusal}
 use Rattle.model.specs.declared.answers.Answer.{Answer}
-use Rattle.refusals.proofs.Order.{or_none}
+use Rattle.model.proofs.Refusing.{number_low, number_high}
 use Rattle.model.proofs.Numbering.{packets_length}
 use Rattle.model.proofs.InTime.{packets_in_time}
 use Rattle.passes.specs.Passes.{Found, skipped_in, lowest_skipped}
@@ -34,7 +33,7 @@ use Rattle.passes.proofs.Sound.{Safe}
 use Rattle.packet.proofs.Placed.{skipped_holds}
 use Rattle.passes.proofs.Complete.{search_length, search_safe, complete_passes}
 use Rattle.reports.specs.Reports.{number_for, place_for}
-use Rattle.search.specs.Answering.{settings_refusal, bad_table, search_refusal, search_of, found_answer, answer_of, table_after}
+use Rattle.search.specs.Answering.{settings_refusal, search_refusal, search_of, found_answer, answer_of, table_after}
 use Rattle.basics.proofs.Sums.{count_same}
 use Rattle.search.proofs.Entering.{entry_fair}
 
@@ -64,50 +63,6 @@ module _ (ps : List Packet) (table more : List ℕ) (long : length table ≡ len
   unfolding skipped_in
   skipped_front = count_same _ _ (length ps) (λ q h. ap not (placed_front q h))
 
--- ---- the numbers of refusals
-
--- a refusal's number is the one given, or 0
-refuse_few : (b : Bool) (n p : ℕ) → (refuse_if b n p).number ≤ n
-unfolding refuse_if
-refuse_few true n p = omega arith
-refuse_few false n p = omega arith
-
--- of two refusals
-or_few : (a b : Refusal) (k : ℕ) → a.number ≤ k → b.number ≤ k → (or_else a b).number ≤ k
-unfolding or_else
-or_few a b k h l = go (eqb a.number 0) refl
-  where
-    go : (t : Bool) → eqb a.number 0 ≡ t → (or_else a b).number ≤ k
-    go true e = rw e l
-    go false e = rw e h
-
--- of the flows
-flows_few : (mesh : Mesh) (numbers : List ℕ) → (flows_refusal mesh numbers).number ≤ 10
-unfolding flows_refusal flow_refusal
-flows_few mesh numbers = go (ltb (first (bad_flow mesh numbers) (flows_in numbers)) (flows_in numbers)) refl
-  where
-    f : ℕ
-    f = first (bad_flow mesh numbers) (flows_in numbers)
-
-    go : (t : Bool) → ltb (first (bad_flow mesh numbers) (flows_in numbers)) (flows_in numbers) ≡ t → (flows_refusal mesh numbers).number ≤ 10
-    go true e =
-        rw e
-        (or_few _ _ 10 (le_trans (refuse_few (bad_nodes mesh numbers f) 5 f) (omega arith))
-        (or_few _ _ 10 (le_trans (refuse_few (bad_times numbers f) 6 f) (omega arith)) (le_trans (refuse_few (too_long mesh numbers f) 7 f) (omega arith))))
-    go false e = rw e (omega arith)
-
--- of the search: 10 at most
-refusal_few : (mesh : Mesh) (f g : ℕ) (numbers table : List ℕ) → (search_refusal mesh f g numbers table).number ≤ 10
-unfolding search_refusal refusal_of settings_refusal sums_refusal
-refusal_few mesh f g numbers table =
-    or_few _ _ 10
-    (or_few _ _ 10 (le_trans (refuse_few (bad_mesh mesh) 2 0) (omega arith))
-    (or_few _ _ 10 (le_trans (refuse_few _ 3 0) (omega arith))
-    (or_few _ _ 10 (le_trans (refuse_few (bad_list numbers) 4 0) (omega arith))
-    (or_few _ _ 10 (flows_few mesh numbers)
-    (or_few _ _ 10 (le_trans (refuse_few (bad_hyper numbers) 8 0) (omega arith)) (le_trans (refuse_few (bad_packets numbers) 9 0) (omega arith)))))))
-    (refuse_few (bad_table numbers table) 10 0)
-
 -- ---- the answer
 
 module _ (mesh : Mesh) (f g : ℕ) (numbers table : List ℕ) where
@@ -122,28 +77,28 @@ module _ (mesh : Mesh) (f g : ℕ) (numbers table : List ℕ) where
   pub refused_writes_nothing : ((answer_of mesh f g numbers table).number ≡ 0 → ⊥) → ((answer_of mesh f g numbers table).number ≡ 13 → ⊥)
       → table_after mesh f g numbers table ≡ table
   unfolding answer_of table_after found_answer number_for
-  refused_writes_nothing no_zero no-13 = go (eqb (search_refusal mesh f g numbers table).number 0) refl (eqb (skipped_in ps found.table) 0) refl
+  refused_writes_nothing no_zero no-13 = go (search_refusal mesh f g numbers table) refl (eqb (skipped_in ps found.table) 0) refl
     where
-      go : (t : Bool) → eqb (search_refusal mesh f g numbers table).number 0 ≡ t → (u : Bool) → eqb (skipped_in ps found.table) 0 ≡ u
+      go : (t : Tested) → search_refusal mesh f g numbers table ≡ t → (u : Bool) → eqb (skipped_in ps found.table) 0 ≡ u
           → table_after mesh f g numbers table ≡ table
-      go true e true d = absurd (no_zero (rw (e, answer_of) (rw d refl)))
-      go true e false d = absurd (no-13 (rw (e, answer_of) (rw d refl)))
-      go false e u d = rw (e, table_after) refl
+      go (Ok x) e true d = absurd (no_zero (rw (e, d)))
+      go (Ok x) e false d = absurd (no-13 (rw (e, d)))
+      go (Err r) e u d = rw e
 
-  module _ (e : eqb (search_refusal mesh f g numbers table).number 0 ≡ true) where
+  module _ (e : search_refusal mesh f g numbers table ≡ accepted) where
     -- the answer of a search that is not refused
     answer_found : answer_of mesh f g numbers table ≡ found_answer numbers ps found
     unfolding answer_of
-    answer_found = rw (e, answer_of) refl
+    answer_found = rw e
 
     table_found : table_after mesh f g numbers table ≡ found.table ++ drop (packets_in numbers) table
     unfolding table_after
-    table_found = rw (e, table_after) refl
+    table_found = rw e
 
     -- nothing refuses the model
-    start_none : (refusal_of mesh (settings_refusal f g) numbers).number ≡ 0
+    start_none : refusal_of mesh (settings_refusal f g) numbers ≡ accepted
     unfolding search_refusal
-    start_none = (or_none _ _ (eqb-true _ 0 e)).0
+    start_none = grind arith
 
     -- its packets fit
     fitting : (p : ℕ) → p < length ps → (packet_at ps p).release + (packet_at ps p).occupancy ≤ (packet_at ps p).deadline
@@ -202,10 +157,10 @@ lowest_of ps table e =
     )
 
 -- the answer of a refusal carries its number
-refused_number : (mesh : Mesh) (f g : ℕ) (numbers table : List ℕ) → eqb (search_refusal mesh f g numbers table).number 0 ≡ false
-    → (search_refusal mesh f g numbers table).number ≡ (answer_of mesh f g numbers table).number
+refused_number : (mesh : Mesh) (f g : ℕ) (numbers table : List ℕ) (r : Refusal) → search_refusal mesh f g numbers table ≡ Err r
+    → (answer_of mesh f g numbers table).number ≡ refusal_number r
 unfolding answer_of refused_by
-refused_number mesh f g numbers table e = sym (rw (e, answer_of) refl)
+refused_number mesh f g numbers table r e = rw e
 
 -- a search that ended with skipped packets: the placed ones are in range and do not collide, and the place is the lowest skipped one
 pub record Ended (ps : List Packet) (table : List ℕ) (place : ℕ) : Type 0 where
@@ -218,12 +173,12 @@ module _ (mesh : Mesh) (f g : ℕ) (numbers table : List ℕ) where
   -- 0: the search is complete, and the table that it leaves passes
   pub complete_search : (answer_of mesh f g numbers table).number ≡ 0 → passes (packets_of mesh numbers) (table_after mesh f g numbers table) ≡ true
   unfolding found_answer number_for
-  complete_search is = go (eqb (search_refusal mesh f g numbers table).number 0) refl
+  complete_search is = go (search_refusal mesh f g numbers table) refl
     where
-      go : (t : Bool) → eqb (search_refusal mesh f g numbers table).number 0 ≡ t
+      go : (t : Tested) → search_refusal mesh f g numbers table ≡ t
           → passes (packets_of mesh numbers) (table_after mesh f g numbers table) ≡ true
-      go false e = absurd (eqb-false (search_refusal mesh f g numbers table).number 0 e (refused_number mesh f g numbers table e ∙ is))
-      go true e =
+      go (Err r) e = absurd (omega (arith, refused_number mesh f g numbers table r e, number_low r))
+      go (Ok x) e =
           let n : number_for (skipped_in (packets_of mesh numbers) (search_of (packets_of mesh numbers) f g).table) ≡ 0 =
           ap (λ (a : Answer). a.number) (sym (answer_found mesh f g numbers table e)) ∙ is in
           complete_passes (packets_of mesh numbers) (table_after mesh f g numbers table) (found_safe mesh f g numbers table e)
@@ -235,12 +190,12 @@ module _ (mesh : Mesh) (f g : ℕ) (numbers table : List ℕ) where
   pub ended_search : (answer_of mesh f g numbers table).number ≡ 13
       → Ended (packets_of mesh numbers) (table_after mesh f g numbers table) (answer_of mesh f g numbers table).place
   unfolding found_answer
-  ended_search is = go (eqb (search_refusal mesh f g numbers table).number 0) refl
+  ended_search is = go (search_refusal mesh f g numbers table) refl
     where
-      go : (t : Bool) → eqb (search_refusal mesh f g numbers table).number 0 ≡ t
+      go : (t : Tested) → search_refusal mesh f g numbers table ≡ t
           → Ended (packets_of mesh numbers) (table_after mesh f g numbers table) (answer_of mesh f g numbers table).place
-      go false e = absurd (omega (arith, refused_number mesh f g numbers table e, refusal_few mesh f g numbers table))
-      go true e =
+      go (Err r) e = absurd (omega (arith, refused_number mesh f g numbers table r e, number_high r))
+      go (Ok x) e =
           let n : number_for (skipped_in (packets_of mesh numbers) (search_of (packets_of mesh numbers) f g).table) ≡ 13 =
           ap (λ (a : Answer). a.number) (sym (answer_found mesh f g numbers table e)) ∙ is in
           let w = lowest_of (packets_of mesh numbers) (search_of (packets_of mesh numbers) f g).table n in

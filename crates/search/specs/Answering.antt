@@ -1,14 +1,15 @@
 -- The answer of the search and the table that it leaves, refusals too.
-use Rattle.std.specs.Prelude.{Bool, true, false, List, ◌++◌, ℕ, ltb, eqb, length, drop}
-use Rattle.basics.specs.Choose.{either}
+use Rattle.std.specs.Prelude.{Bool, List, ◌++◌, ℕ, ltb, length, drop, Ok, is_ok}
+use Rattle.std.specs.Result.{result_and}
+use Rattle.basics.specs.Choose.{either, choose}
 use Rattle.packet.specs.Packet.{Packet}
 use Rattle.model.specs.Packets.{hyper_in, packets_in, packets_of}
 use Rattle.limits.specs.Limits.{out_of_range}
-use Rattle.refusals.specs.Refusals.{refuse_if, or_else, refusal_of}
-use Rattle.model.specs.Answers.{refused_by}
+use Rattle.refusals.specs.Refusals.{Tested, refuse_if, refusal_of}
+use Rattle.model.specs.Answers.{answer_by}
 use Rattle.model.specs.declared.flows.Mesh.{Mesh}
 use Rattle.model.specs.declared.answers.Answer.{Answer}
-use Rattle.model.specs.declared.answers.Refusal.{Refusal}
+use Rattle.model.specs.declared.answers.Refusal.TheVariants.{BadSettings, ShortTable}
 use Rattle.passes.specs.Passes.{Found, search_by, skipped_in, lowest_skipped}
 use Rattle.keys.specs.Slack.{slack_at}
 use Rattle.reports.specs.Reports.{number_for, place_for}
@@ -18,16 +19,16 @@ unfoldable pub bad_settings : ℕ → ℕ → Bool
 bad_settings f g = either (out_of_range 1 65536 f) (out_of_range 1 16 g)
 
 -- the refusal of the settings
-unfoldable pub settings_refusal : ℕ → ℕ → Refusal
-settings_refusal f g = refuse_if (bad_settings f g) 3 0
+unfoldable pub settings_refusal : ℕ → ℕ → Tested
+settings_refusal f g = refuse_if (bad_settings f g) BadSettings
 
 -- 10: table shorter than the packets
 unfoldable pub bad_table : List ℕ → List ℕ → Bool
 bad_table numbers table = ltb (length table) (packets_in numbers)
 
 -- the order of the tests: 2, 3, 4; then flow by flow 5, 6, 7; then 8, 9, 10
-unfoldable pub search_refusal : Mesh → ℕ → ℕ → List ℕ → List ℕ → Refusal
-search_refusal mesh f g numbers table = or_else (refusal_of mesh (settings_refusal f g) numbers) (refuse_if (bad_table numbers table) 10 0)
+unfoldable pub search_refusal : Mesh → ℕ → ℕ → List ℕ → List ℕ → Tested
+search_refusal mesh f g numbers table = result_and (refusal_of mesh (settings_refusal f g) numbers) (refuse_if (bad_table numbers table) ShortTable)
 
 -- the search of the document: the list starts in order of least slack
 abbrev pub search_of : List Packet → ℕ → ℕ → Found
@@ -48,14 +49,12 @@ found_answer numbers ps found = record {
 
 -- the answer: that of the first refusal, or of the search
 unfoldable pub answer_of : Mesh → ℕ → ℕ → List ℕ → List ℕ → Answer
-answer_of mesh f g numbers table = elim (eqb (search_refusal mesh f g numbers table).number 0) [
-  | true ↦ found_answer numbers (packets_of mesh numbers) (search_of (packets_of mesh numbers) f g)
-  | false ↦ refused_by (search_refusal mesh f g numbers table)
-]
+answer_of mesh f g numbers table =
+    answer_by (result_and (search_refusal mesh f g numbers table) (Ok (found_answer numbers (packets_of mesh numbers) (search_of (packets_of mesh numbers) f g))))
 
 -- numbers 0 and 13 write exactly the first `packets` places of the lent table; every other number writes nothing
 unfoldable pub table_after : Mesh → ℕ → ℕ → List ℕ → List ℕ → List ℕ
-table_after mesh f g numbers table = elim (eqb (search_refusal mesh f g numbers table).number 0) [
-  | true ↦ (search_of (packets_of mesh numbers) f g).table ++ drop (packets_in numbers) table
-  | false ↦ table
-]
+table_after mesh f g numbers table =
+    choose (is_ok (search_refusal mesh f g numbers table))
+    ((search_of (packets_of mesh numbers) f g).table ++ drop (packets_in numbers) table)
+    table

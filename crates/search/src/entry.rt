@@ -1,6 +1,7 @@
 // The search: refusals first, then the passes, then the table and the answer.
 ghost use Rattle.std.specs.Prelude.{◌≡◌};
-ghost use Rattle.search.specs.Answering.{bad_settings, settings_refusal, answer_of, table_after};
+ghost use Rattle.model.specs.Answers.{answer_by};
+ghost use Rattle.search.specs.Answering.{settings_refusal, answer_of, table_after};
 
 use crate::carrying::run;
 use arrays::model_of;
@@ -10,29 +11,37 @@ use refusals::refusal;
 use reports::report;
 
 // 3: F outside 1 to 65,536 or G outside 1 to 16.
-fn bad_settings(pruning: u32, threshold: u32) -> bool
-    ensures { result ≡ bad_settings pruning threshold }
-{
-    if out_of_range(1, 65_536, pruning) {
-        return true;
-    }
-    out_of_range(1, 16, threshold)
-}
-
-// The refusal of the settings, or none.
-fn refuse_settings(pruning: u32, threshold: u32) -> Refusal
+#[tactic(auto, unfolding(crate::specs::Answering::settings_refusal, crate::specs::Answering::bad_settings, refusals::specs::Refusals::refuse_if))]
+fn refuse_settings(pruning: u32, threshold: u32) -> Result<(), Refusal>
     ensures { result ≡ settings_refusal pruning threshold }
 {
-    if bad_settings(pruning, threshold) {
-        return Refusal {
-            number: 3,
-            place: 0,
-        };
+    if out_of_range(1, 65_536, pruning) || out_of_range(1, 16, threshold) {
+        return Err(Refusal::BadSettings);
     }
-    Refusal {
-        number: 0,
-        place: 0,
+    Ok(())
+}
+
+// The refusals in order, then the passes; a refusal writes nothing.
+#[tactic(auto, using(crate::proofs::Entering::entry_fair, crate::proofs::Entering::model_holds, crate::proofs::Entering::model_packets), unfolding(crate::specs::Answering::answer_of, crate::specs::Answering::table_after, crate::specs::Answering::search_refusal, crate::specs::Answering::bad_table, refusals::specs::Refusals::refuse_if))]
+fn found(
+    mesh: Mesh,
+    pruning: u32,
+    threshold: u32,
+    numbers: &[u32],
+    table: &mut [u32],
+) -> Result<Answer, Refusal>
+    ensures answered { answer_by result ≡ answer_of mesh pruning threshold numbers.now table.old }
+    ensures written { table.new ≡ table_after mesh pruning threshold numbers.now table.old }
+{
+    refusal(mesh, refuse_settings(pruning, threshold), numbers)?;
+    let model = model_of(mesh, numbers);
+    let hyper = model.hyper;
+    let n = model.packets.count;
+    if table.len() < n {
+        return Err(Refusal::ShortTable);
     }
+    let outcome = run(model, pruning, threshold);
+    Ok(report(outcome, hyper, n, table))
 }
 
 // The answer, with the table in the first packets places of the lent one; a refusal writes nothing.
@@ -45,19 +54,5 @@ pub fn search(
 ) -> Answer
     ensures { (result ≡ answer_of mesh pruning threshold numbers.now table.old) × (table.new ≡ table_after mesh pruning threshold numbers.now table.old) }
 {
-    let first = refusal(mesh, refuse_settings(pruning, threshold), numbers);
-    if first.number != 0 {
-        return refused(first);
-    }
-    let model = model_of(mesh, numbers);
-    let hyper = model.hyper;
-    let n = model.packets.count;
-    if table.len() < n {
-        return refused(Refusal {
-            number: 10,
-            place: 0,
-        });
-    }
-    let found = run(model, pruning, threshold);
-    report(found, hyper, n, table)
+    found(mesh, pruning, threshold, numbers, table).unwrap_or_else(|refusal| refused(refusal))
 }

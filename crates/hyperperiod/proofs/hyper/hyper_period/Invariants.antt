@@ -2,17 +2,15 @@
 use mathlib.Core.Path.{◌≡◌}
 use mathlib.Core.List.{List}
 use Prim.Native.Nat.{ℕ, ◌≤◌, ◌<◌}
-use lib.ListN.{length, drop}
+use lib.ListN.{drop}
 use Rattle.hyperperiod.specs.Hyper.{lcm_with, hyper_of, most}
 use Rattle.hyperperiod.proofs.hyper.hyper_period.Given as goal
 
 -- h is the least common multiple of the periods before i, so that folding the rest into it gives H
-pub record Folded (ps : List ℕ) (end h i : ℕ) : Type 0 where
+pub record Folded (ps : List ℕ) (h i : ℕ) : Type 0 where
   pub fold : lcm_with h (drop i ps) ≡ hyper_of ps
   pub low : 0 < h
   pub high : h ≤ most
-  pub within : i ≤ end
-  pub whole : end ≡ length ps
 
-abbrev pub invariant-loop-i : goal.invariant-loop-i
-invariant-loop-i l = Folded l.periods l.i-end l.h l.i
+abbrev pub invariant-loop-t : goal.invariant-loop-t
+invariant-loop-t l = Folded l.periods l.h l.t-index

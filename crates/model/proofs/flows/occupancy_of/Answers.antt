@@ -1,14 +1,15 @@
--- `occupancy_of` is its definition over the numbers that `number_of` gives; the ranges past 2, 5 and 6 are what `distance` and `occupancy` ask.
-use mathlib.Core.Path.{◌≡◌}
+-- `occupancy_of` is its definition over the flow that `flow_of` gives; the ranges past 2, 5 and 6 are what `distance` and `occupancy` ask.
+use mathlib.Core.Path.{◌≡◌, refl, ap}
 use mathlib.Core.List.{List}
 use Prim.Native.Nat.{ℕ, ◌≤◌}
 use native.Mathlib.Nat.{div-le_self}
 use native.Mathlib.Omega.{arith}
 use Rattle.time.specs.Units.{flits_of}
 use Rattle.mesh.specs.Node.{distance_of}
+use Rattle.model.specs.declared.flows.Flow.{Flow}
 use Rattle.model.specs.declared.flows.Mesh.{Mesh}
 use Rattle.model.specs.Fair.{Sized}
-use Rattle.model.specs.Flows.{source_of, target_of, size_of, occupancy_in}
+use Rattle.model.specs.Flows.{source_of, target_of, flow_of, occupancy_in}
 use Rattle.model.proofs.Near.{distance_small, ends_of}
 use Rattle.model.proofs.flows.occupancy_of.Goals as goal
 
@@ -23,23 +24,24 @@ unfolding flits_of
 light flit size small = omega (arith, div-le_self size flit)
 
 pub distance-m-requires : goal.distance-m-requires
-unfolding source_of target_of
+unfolding flow_of
 distance-m-requires c =
     let pre = c.requires in
-    rw (c.number_of-source.ensures, c.number_of-target.ensures) (ends_of _ _ _ pre.fair_mesh pre.nodes)
+    rw c.flow_of-flow.ensures (ends_of _ _ _ pre.fair_mesh pre.nodes)
 
 pub overflow_cast-m : goal.overflow_cast-m
-unfolding source_of target_of
+unfolding flow_of
 overflow_cast-m c =
-    let d = near c.requires c.number_of-source.ensures c.number_of-target.ensures c.distance-m.ensures in
+    let d = near c.requires (ap (λ (x : Flow). x.source) c.flow_of-flow.ensures) (ap (λ (x : Flow). x.target) c.flow_of-flow.ensures) c.distance-m.ensures in
     omega arith
 
 pub occupancy-requires : goal.occupancy-requires
-unfolding source_of target_of size_of
+unfolding flow_of
 occupancy-requires c =
-    let size : c.number_of-size.result ≤ 65536 = rw c.number_of-size.ensures c.requires.times.size_high in
-    (c.requires.fair_mesh.r_high, near c.requires c.number_of-source.ensures c.number_of-target.ensures c.distance-m.ensures, rw c.flits_of.ensures (light _ _ size))
+    let size : c.flow_of-flow.result.size ≤ 65536 = rw c.flow_of-flow.ensures c.requires.times.size_high in
+    let d = near c.requires (ap (λ (x : Flow). x.source) c.flow_of-flow.ensures) (ap (λ (x : Flow). x.target) c.flow_of-flow.ensures) c.distance-m.ensures in
+    (c.requires.fair_mesh.r_high, d, rw c.flits_of.ensures (light _ _ size))
 
 pub returns : goal.returns
-unfolding occupancy_in source_of target_of size_of
-returns c = cc
+unfolding occupancy_in flow_of
+returns c = rw (c.occupancy.ensures, c.flits_of.ensures, c.distance-m.ensures, c.flow_of-flow.ensures) refl

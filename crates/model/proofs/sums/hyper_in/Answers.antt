@@ -1,9 +1,6 @@
 -- `hyper_in` hands the front of the array of periods on, which is the list of them.
-use mathlib.Core.Path.{◌≡◌, sym, ◌∙◌, ap}
-use mathlib.Core.List.{List}
-use Prim.Native.Nat.{ℕ}
-use lib.ListN.{length, take}
-use Rattle.basics.specs.Lists.{padded}
+use mathlib.Core.Path.{sym, ◌∙◌, ap}
+use lib.ListN.{length}
 use Rattle.basics.proofs.Lists.{tabulate_length}
 use Rattle.hyperperiod.specs.Hyper.{hyper_within}
 use Rattle.model.specs.Flows.{period_of, flows_in}
@@ -12,18 +9,14 @@ use Rattle.model.proofs.InTime.{periods_fair}
 use Rattle.model.proofs.Packing.{periods_front}
 use Rattle.model.proofs.sums.hyper_in.Goals as goal
 
--- the front of an array that holds the periods is the list of them
-front : (numbers all : List ℕ) → all ≡ padded 64 0 (periods_of numbers) → take (flows_in numbers) all ≡ periods_of numbers
-front numbers all e = rw e (periods_front numbers)
-
 pub slice_bounds-hyper_period-end : goal.slice_bounds-hyper_period-end
 unfolding flows_in periods_of
-slice_bounds-hyper_period-end c = sym (ap length (front c.args.numbers.now _ c.periods-all.ensures) ∙ tabulate_length (period_of c.args.numbers.now) 0 (flows_in c.args.numbers.now))
+slice_bounds-hyper_period-end c = sym (ap length (periods_front c.args.numbers.now c.periods-all.ensures) ∙ tabulate_length (period_of c.args.numbers.now) 0 (flows_in c.args.numbers.now))
 
 pub hyper_period-requires : goal.hyper_period-requires
 unfolding flows_in
-hyper_period-requires c = rw (front c.args.numbers.now _ c.periods-all.ensures) (periods_fair _ c.requires)
+hyper_period-requires c = rw (periods_front c.args.numbers.now c.periods-all.ensures) (periods_fair _ c.requires)
 
 pub returns : goal.returns
 unfolding flows_in
-returns c = c.hyper_period.ensures ∙ ap hyper_within (front c.args.numbers.now _ c.periods-all.ensures)
+returns c = c.hyper_period.ensures ∙ ap hyper_within (periods_front c.args.numbers.now c.periods-all.ensures)
