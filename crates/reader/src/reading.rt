@@ -1,10 +1,11 @@
 // The text reader: a mesh line, a search line, then flow lines.
 ghost use Rattle.std.specs.Prelude.{◌≡◌};
-ghost use Rattle.reader.specs.Reader.{input_of};
+ghost use Rattle.model.specs.declared.answers.Refusal.TheVariants.{Malformed};
+ghost use Rattle.reader.specs.Reader.{malformed_place, input_of};
 ghost use Rattle.reader.specs.declared.reading.Malformed.TheVariants.{Line};
 
 use lines::{BadLine, KEPT_NUMBERS, Lines, read_flows, read_line};
-use model::Mesh;
+use model::{Mesh, Refusal};
 use words::{MESH, SEARCH};
 
 // The most bytes of a text.
@@ -27,6 +28,19 @@ impl From<BadLine> for Malformed {
 
     fn from(bad: BadLine) -> Malformed {
         Malformed::Line(bad.line)
+    }
+}
+
+impl From<Malformed> for Refusal {
+    ghost from_gives = { λ why refusal. refusal ≡ Malformed (malformed_place why) };
+
+    #[tactic(auto, unfolding(crate::specs::Reader::malformed_place))]
+    fn from(why: Malformed) -> Refusal {
+        let line = match why {
+            Malformed::TooLong => 0,
+            Malformed::Line(line) => line,
+        };
+        Refusal::Malformed { line }
     }
 }
 
