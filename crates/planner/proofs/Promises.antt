@@ -1,17 +1,18 @@
 -- What the program keeps: the pieces that it writes are the output text, and 65 flows are enough to be refused.
-use mathlib.Core.Path.{◌≡◌, sym, ◌∙◌, ap}
-use mathlib.Core.Bool.{true, true≢false}
+use mathlib.Core.Path.{◌≡◌, refl, sym, ◌∙◌, ap}
+use mathlib.Core.Bool.{true}
 use mathlib.Core.List.{List}
 use Prim.Native.Nat.{ℕ, ◌+◌}
-use native.Mathlib.Omega.{arith}
-use borrow.Author.Tests.{ne_eqb}
-use Rattle.model.specs.Answers.{refused_by}
+use Rattle.std.specs.Prelude.{Result, Ok, Err}
+use Rattle.std.specs.Result.{result_and}
+use Rattle.model.specs.Answers.{answer_by}
 use Rattle.limits.specs.Limits.{bad_mesh, bad_list}
-use Rattle.refusals.specs.Refusals.{flows_refusal, sums_refusal, refuse_if, or_else, refusal_of}
+use Rattle.refusals.specs.Refusals.{Tested, refuse_if, refusal_of}
 use Rattle.model.specs.declared.answers.Refusal.{Refusal}
+use Rattle.model.specs.declared.answers.Refusal.TheVariants.{BadMesh, BadList, ShortTable}
 use Rattle.model.specs.declared.flows.Mesh.{Mesh}
-use Rattle.refusals.proofs.Order.{refuse_none, refuse_by, or_stays, or_none}
-use Rattle.search.specs.Answering.{settings_refusal, bad_table, search_refusal, answer_of}
+use Rattle.model.specs.Packets.{packets_of}
+use Rattle.search.specs.Answering.{settings_refusal, bad_table, search_refusal, search_of, found_answer, answer_of}
 use Rattle.printer.specs.Printer.{pieces_of}
 use Rattle.printer.specs.declared.printing.Cursor.TheVariants.{First}
 use Rattle.printer.proofs.Pieces.{all_pieces}
@@ -26,47 +27,43 @@ program_prints plan table = all_pieces plan.answer table plan.flow plan.turn
 
 -- ---- a bad list of flows
 
--- number 4
-abbrev four : Refusal
-four = record { number = 4; place = 0 }
-
 module _ (mesh : Mesh) (f g : ℕ) where
   -- what is refused before the list is looked at, else number 4
-  unfoldable up_to_four : Refusal
-  up_to_four = or_else (refuse_if (bad_mesh mesh) 2 0) (or_else (settings_refusal f g) four)
+  unfoldable up_to_four : Tested
+  up_to_four = result_and (refuse_if (bad_mesh mesh) BadMesh) (result_and (settings_refusal f g) (Err BadList))
 
-  -- it refuses
-  refuses : up_to_four.number ≡ 0 → ⊥
-  unfolding up_to_four
-  refuses e =
-      let later = (or_none (refuse_if (bad_mesh mesh) 2 0) (or_else (settings_refusal f g) four) e).1 in
-      let last : four.number ≡ 0 = (or_none (settings_refusal f g) four later).1 in
-      omega (arith, last)
+  -- what is tested behind a refusal is not asked
+  stands : {X : Type 0} (a b : Tested) (r : Refusal) (x y : Result X Refusal)
+      → result_and {T = Unit {0}} (result_and a (result_and b (Err r))) x ≡ result_and {T = Unit {0}} (result_and a (result_and b (Err r))) y
+  stands (Ok u) (Ok v) r x y = refl
+  stands (Ok u) (Err q) r x y = refl
+  stands (Err q) b r x y = refl
+
+  -- and the refusal itself is what is left
+  ends : (a b later : Tested) (r : Refusal) → result_and {T = Unit {0}} (result_and a (result_and b (Err r))) later ≡ result_and a (result_and b (Err r))
+  ends (Ok u) (Ok v) later r = refl
+  ends (Ok u) (Err q) later r = refl
+  ends (Err q) b later r = refl
 
   module _ (numbers table : List ℕ) (bad : bad_list numbers ≡ true) where
     -- nothing behind the list is asked
     list_decides : refusal_of mesh (settings_refusal f g) numbers ≡ up_to_four
-    unfolding refusal_of up_to_four
-    list_decides =
-        ap (λ (r : Refusal). or_else (refuse_if (bad_mesh mesh) 2 0) (or_else (settings_refusal f g) r))
-        (or_stays (refuse_if (bad_list numbers) 4 0) (or_else (flows_refusal mesh numbers) (sums_refusal numbers))
-        (λ e. true≢false (sym bad ∙ refuse_none (bad_list numbers) 4 0 (omega arith) e))
-        ∙ refuse_by (bad_list numbers) 4 0 bad)
+    unfolding refusal_of up_to_four refuse_if
+    list_decides = rw bad
 
     -- nor is the lent table
     list_refuses : search_refusal mesh f g numbers table ≡ up_to_four
-    unfolding search_refusal
+    unfolding search_refusal up_to_four
     list_refuses =
-        or_stays (refusal_of mesh (settings_refusal f g) numbers) (refuse_if (bad_table numbers table) 10 0)
-        (λ e. refuses (sym (ap (λ (r : Refusal). r.number) list_decides) ∙ e))
-        ∙ list_decides
+        ap (λ (t : Tested). result_and t (refuse_if (bad_table numbers table) ShortTable)) list_decides
+        ∙ ends (refuse_if (bad_mesh mesh) BadMesh) (settings_refusal f g) (refuse_if (bad_table numbers table) ShortTable) BadList
 
-    -- so the answer is that refusal
-    four_answers : answer_of mesh f g numbers table ≡ refused_by up_to_four
-    unfolding answer_of
+    -- so the answer is that refusal, whatever the search would find
+    four_answers : answer_of mesh f g numbers table ≡ answer_by (result_and up_to_four (Err BadList))
+    unfolding answer_of up_to_four
     four_answers =
-        rw (ne_eqb (search_refusal mesh f g numbers table).number 0 (λ e. refuses (sym (ap (λ (r : Refusal). r.number) list_refuses) ∙ e)), answer_of)
-        (ap refused_by list_refuses)
+        ap (λ (t : Tested). answer_by (result_and t (Ok (found_answer numbers (packets_of mesh numbers) (search_of (packets_of mesh numbers) f g))))) list_refuses
+        ∙ ap answer_by (stands (refuse_if (bad_mesh mesh) BadMesh) (settings_refusal f g) BadList (Ok (found_answer numbers (packets_of mesh numbers) (search_of (packets_of mesh numbers) f g))) (Err BadList))
 
 -- of more flows than 64 the answer is the same whichever are kept
 pub sixty_five_enough : (mesh : Mesh) (f g : ℕ) (some all table : List ℕ) → bad_list some ≡ true → bad_list all ≡ true

@@ -1,21 +1,26 @@
 -- The turns of the packets, read off the arrays of a model that is not refused.
 use mathlib.Core.Path.{◌≡◌, refl, sym, ◌∙◌, ap, ap₂}
+use mathlib.Core.Bool.{true, false}
 use mathlib.Core.List.{List, [], map}
-use Prim.Native.Nat.{ℕ, ◌<◌}
+use Prim.Native.Nat.{ℕ, ◌<◌, ◌/◌}
 use native.Mathlib.Nat.{zero-add}
 use native.Mathlib.Omega.{arith}
-use lib.ListN.{length, get_or, length-map, get_or-map}
+use lib.ListN.{length, get_or, take, length-map, length-take, get_or-map}
+use Rattle.std.proofs.lemmas.List.{get_or-take}
 use lib.Seq.{ext_get_or}
-use borrow.Author.Tests.{eq-eqb, ne_eqb}
+use Rattle.std.specs.Prelude.{Ok, Err, is_ok, is_err}
+use Rattle.basics.specs.Choose.{choose}
 use Rattle.basics.specs.Lists.{tabulate, padded}
 use Rattle.basics.proofs.Lists.{tabulate_length, tabulate_at}
 use Rattle.packet.specs.Packet.{Packet, absent}
 use Rattle.packet.specs.Table.{packet_at}
 use Rattle.model.specs.Packets.{packets_in, packets_of}
-use Rattle.refusals.specs.Refusals.{accepted, refusal_of}
+use Rattle.refusals.specs.Refusals.{Tested, accepted, refusal_of}
 use Rattle.model.specs.Fair.{Fair}
 use Rattle.arrays.specs.Arrays.{arrays_of, model_of, packet_in}
 use Rattle.model.specs.declared.answers.Answer.{Answer}
+use Rattle.arrays.specs.declared.build.Flows.{Flows}
+use Rattle.arrays.specs.declared.build.Packets.{Packets}
 use Rattle.arrays.specs.declared.build.Model.{Model}
 use Rattle.model.specs.declared.flows.Mesh.{Mesh}
 use Rattle.refusals.proofs.Accepted.{accepted_fair}
@@ -67,6 +72,12 @@ module _ (mesh : Mesh) (numbers : List ℕ) (fair : Fair mesh numbers) where
       (by_places (λ (q : Packet). q.turn) refl (packets_of mesh numbers) (λ p. (packet_in (model_of mesh numbers).flows (model_of mesh numbers).packets p).turn)
       (λ p h. ap (λ (q : Packet). q.turn) (packet_in_lem mesh numbers fair p (omega (arith, packets_length mesh numbers)))))
 
+-- a turn that is read off the arrays
+pub turn_read : (flows : Flows) (packets : Packets) (p : ℕ) → p < length (take packets.count packets.flow)
+    → get_or packets.release p 0 / get_or flows.period (get_or (take packets.count packets.flow) p 0) 0 ≡ (packet_in flows packets p).turn
+unfolding packet_in
+turn_read flows packets p h = rw (get_or-take packets.count packets.flow p 0 (omega (arith, length-take packets.count packets.flow)))
+
 -- ---- plans
 
 -- a plan by its parts
@@ -79,21 +90,29 @@ unfolding model_of arrays_of array_of
 flows_are mesh numbers = refl
 
 -- a model that is refused has no packets
-pub plan_refused : (answer : Answer) (mesh : Mesh) (numbers : List ℕ) → ((refusal_of mesh accepted numbers).number ≡ 0 → ⊥)
-    → plan_for answer (packets_for mesh numbers) ≡ plan_for answer []
+pub plan_refused : (answer : Answer) (mesh : Mesh) (numbers : List ℕ) → is_err (refusal_of mesh accepted numbers) ≡ true
+    → plan_for answer [] ≡ plan_for answer (packets_for mesh numbers)
 unfolding packets_for
-plan_refused answer mesh numbers h = ap (plan_for answer) (rw (ne_eqb (refusal_of mesh accepted numbers).number 0 h, packets_for))
+plan_refused answer mesh numbers h = ap (plan_for answer) (go (refusal_of mesh accepted numbers) h)
+  where
+    go : (t : Tested) → is_err t ≡ true → [] ≡ choose (is_ok t) (packets_of mesh numbers) []
+    go (Ok x) e = cc
+    go (Err r) e = refl
+
+-- one that is not refused is accepted
+pub is_accepted : (t : Tested) → is_err t ≡ false → t ≡ accepted
+is_accepted (Ok x) e = refl
+is_accepted (Err r) e = cc
 
 -- the plan of a model that is not refused, from its arrays
-pub plan_built : (answer : Answer) (mesh : Mesh) (numbers : List ℕ) (m : Model) (turn : List ℕ) → (refusal_of mesh accepted numbers).number ≡ 0
+pub plan_built : (answer : Answer) (mesh : Mesh) (numbers : List ℕ) (m : Model) (turn : List ℕ) → refusal_of mesh accepted numbers ≡ accepted
     → m ≡ model_of mesh numbers
     → turn ≡ padded 1024 0 (tabulate (λ p. (packet_in m.flows m.packets p).turn) 0 m.packets.count)
     → record { answer = answer; flow = m.packets.flow; turn = turn } ≡ plan_for answer (packets_for mesh numbers)
 unfolding plan_for packets_for array_of
 plan_built answer mesh numbers m turn z em et =
     let fair = accepted_fair mesh accepted numbers z in
-    let its : packets_for mesh numbers ≡ packets_of mesh numbers = rw (eq-eqb (refusal_of mesh accepted numbers).number 0 z, packets_for) in
     ap₂ (λ (f t : List ℕ). plan_with answer f t)
     (ap (λ (x : Model). x.packets.flow) em ∙ flows_are mesh numbers)
     (et ∙ ap (λ (x : Model). padded 1024 0 (tabulate (λ p. (packet_in x.flows x.packets p).turn) 0 x.packets.count)) em ∙ turns_are mesh numbers fair)
-    ∙ ap (plan_for answer) (sym its)
+    ∙ sym (rw z)

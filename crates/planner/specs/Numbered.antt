@@ -1,5 +1,6 @@
 -- The packets of a model as the printer wants them: an answer with the flow and k of each packet.
-use Rattle.std.specs.Prelude.{true, false, List, [], map, ℕ, ◌<◌, eqb, get_or}
+use Rattle.std.specs.Prelude.{List, [], map, ℕ, ◌<◌, get_or, is_ok}
+use Rattle.basics.specs.Choose.{choose}
 use Rattle.basics.specs.Lists.{padded}
 use Rattle.packet.specs.Packet.{Packet}
 use Rattle.model.specs.Packets.{packets_of}
@@ -13,7 +14,7 @@ use Rattle.planner.specs.declared.numbering.Plan.{Plan}
 
 -- the packets of a model that is not refused, else none
 unfoldable pub packets_for : Mesh → List ℕ → List Packet
-packets_for mesh numbers = elim (eqb (refusal_of mesh accepted numbers).number 0) [ true ↦ packets_of mesh numbers | false ↦ [] ]
+packets_for mesh numbers = choose (is_ok (refusal_of mesh accepted numbers)) (packets_of mesh numbers) []
 
 -- one number of each packet, in an array of 1,024
 unfoldable pub array_of : (Packet → ℕ) → List Packet → List ℕ

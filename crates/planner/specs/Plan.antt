@@ -1,14 +1,16 @@
 -- From the bytes of a text to the whole answer, and to the output text.
-use Rattle.std.specs.Prelude.{true, false, List, [], ℕ, ◌*◌, min, take, replicate}
+use Rattle.std.specs.Prelude.{Result, Ok, Err, List, [], ℕ, ◌*◌, min, take, replicate}
 use Rattle.packet.specs.Packet.{Packet}
 use Rattle.model.specs.Flows.{per_flow}
 use Rattle.model.specs.Answers.{refused_by}
 use Rattle.model.specs.declared.answers.Answer.{Answer}
+use Rattle.model.specs.declared.answers.Refusal.TheVariants.{Malformed as Refused}
 use Rattle.search.specs.Answering.{answer_of, table_after}
 use Rattle.lines.specs.Form.{most_kept}
-use Rattle.reader.specs.Reader.{input_of}
+use Rattle.reader.specs.Reader.{malformed_place, input_of}
 use Rattle.printer.specs.Printer.{output_of}
 use Rattle.reader.specs.declared.reading.Input.{Input}
+use Rattle.reader.specs.declared.reading.Malformed.{Malformed}
 use Rattle.planner.specs.Numbered.{packets_for, plan_for}
 use Rattle.planner.specs.declared.numbering.Plan.{Plan}
 
@@ -16,23 +18,20 @@ use Rattle.planner.specs.declared.numbering.Plan.{Plan}
 unfoldable pub judged_of : Input → List ℕ
 judged_of input = take (per_flow * min input.flows most_kept) input.numbers
 
--- the answer to what a text says: number 1 where it is malformed, else that of the search
-unfoldable pub answer_to : Input → List ℕ → Answer
-answer_to input table = elim input.malformed [
-  | true ↦ refused_by (record { number = 1; place = input.line })
-  | false ↦ answer_of input.mesh input.pruning input.threshold (judged_of input) table
-]
+-- the answer to what a text says: that of the search, or number 1 where it is malformed
+unfoldable pub answer_to : Result Input Malformed → List ℕ → Answer
+answer_to (Ok input) table = answer_of input.mesh input.pruning input.threshold (judged_of input) table
+answer_to (Err why) table = refused_by (Refused (malformed_place why))
 
 -- the lent table afterwards: malformed text leaves it as it was
-unfoldable pub table_to : Input → List ℕ → List ℕ
-table_to input table = elim input.malformed [
-  | true ↦ table
-  | false ↦ table_after input.mesh input.pruning input.threshold (judged_of input) table
-]
+unfoldable pub table_to : Result Input Malformed → List ℕ → List ℕ
+table_to (Ok input) table = table_after input.mesh input.pruning input.threshold (judged_of input) table
+table_to (Err why) table = table
 
 -- the packets of what a text says
-unfoldable pub packets_to : Input → List Packet
-packets_to input = elim input.malformed [ true ↦ [] | false ↦ packets_for input.mesh (judged_of input) ]
+unfoldable pub packets_to : Result Input Malformed → List Packet
+packets_to (Ok input) = packets_for input.mesh (judged_of input)
+packets_to (Err why) = []
 
 -- the plan of a text and a lent table
 unfoldable pub plan_of : List ℕ → List ℕ → Plan

@@ -5,7 +5,7 @@ ghost use Rattle.arrays.specs.Arrays.{packet_in};
 ghost use Rattle.planner.specs.Numbered.{packets_for, plan_for, Turned};
 
 use arrays::{Flows, Packets, model_of};
-use model::{Answer, Mesh, Refusal};
+use model::{Answer, Mesh};
 use refusals::refusal;
 
 // The answer, and for 0 and 13 the flow and k of each packet; what follows them is 0.
@@ -22,15 +22,15 @@ fn turns(flows: Flows, packets: Packets) -> [u16; 1024]
     ensures { result ≡ padded 1024 0 (tabulate (λ p. (packet_in flows packets p).turn) 0 packets.count) }
 {
     let mut all = [0u16; 1024];
-    let n = packets.count;
-    for p in 0..n {
-        let f = packets.flow[p] as usize;
-        all[p] = (packets.release[p] / flows.period[f]) as u16;
+    for (p, flow) in packets.flow[..packets.count].iter().enumerate() {
+        let period = flows.period[*flow as usize];
+        all[p] = (packets.release[p] / period) as u16;
     }
     all
 }
 
 // The plan of an answer without packets.
+#[tactic(auto, unfolding(crate::specs::Numbered::plan_for, crate::specs::Numbered::array_of, basics::specs::Lists::padded))]
 pub fn bare(answer: Answer) -> Plan
     ensures { result ≡ plan_for answer [] }
 {
@@ -45,18 +45,11 @@ pub fn bare(answer: Answer) -> Plan
 pub fn with_packets(answer: Answer, mesh: Mesh, numbers: &[u32]) -> Plan
     ensures { result ≡ plan_for answer (packets_for mesh numbers.now) }
 {
-    let none = Refusal {
-        number: 0,
-        place: 0,
-    };
-    let early = refusal(mesh, none, numbers);
-    if early.number != 0 {
+    if refusal(mesh, Ok(()), numbers).is_err() {
         return bare(answer);
     }
     let m = model_of(mesh, numbers);
-    let flows = m.flows;
-    let packets = m.packets;
-    let flow = packets.flow;
-    let turn = turns(flows, packets);
+    let flow = m.packets.flow;
+    let turn = turns(m.flows, m.packets);
     Plan { answer, flow, turn }
 }

@@ -5,7 +5,7 @@ ghost use Rattle.lines.specs.Form.{most_kept};
 ghost use Rattle.planner.specs.Plan.{plan_of, plan_table};
 
 use crate::numbering::{Plan, bare, with_packets};
-use lines::{KEPT_NUMBERS, MOST_KEPT};
+use lines::MOST_KEPT;
 use model::{PER_FLOW, Refusal, refused};
 use reader::read;
 use search::search;
@@ -14,27 +14,22 @@ use search::search;
 fn judged(flows: usize) -> usize
     ensures { result ≡ per_flow * min flows most_kept }
 {
-    if flows <= MOST_KEPT {
-        PER_FLOW * flows
-    } else {
-        KEPT_NUMBERS
-    }
+    PER_FLOW * flows.min(MOST_KEPT)
 }
 
 // The plan of a text: any bytes and any lent table are answered; a refusal leaves the table untouched.
 pub fn plan_of(text: &[u8], table: &mut [u32]) -> Plan
     ensures { (result ≡ plan_of text.now table.old) × (table.new ≡ plan_table text.now table.old) }
 {
-    let input = read(text);
-    if input.malformed {
-        return bare(refused(Refusal {
-            number: 1,
-            place: input.line,
-        }));
+    match read(text) {
+        Ok(input) => {
+            let numbers = &input.numbers[..judged(input.flows)];
+            let answer = search(input.mesh, input.pruning, input.threshold, numbers, table);
+            with_packets(answer, input.mesh, numbers)
+        }
+        Err(why) => {
+            let refusal = Refusal::from(why);
+            bare(refused(refusal))
+        }
     }
-    let mesh = input.mesh;
-    let numbers = input.numbers;
-    let n = judged(input.flows);
-    let answer = search(mesh, input.pruning, input.threshold, &numbers[..n], table);
-    with_packets(answer, mesh, &numbers[..n])
 }

@@ -1,9 +1,9 @@
 -- Whole texts: Case A as document 01 has it, read; and texts with a bad line.
 use mathlib.Core.Path.{◌≡◌, refl}
-use mathlib.Core.Bool.{false}
 use mathlib.Core.List.{List, [], ◌∷◌, map}
 use Prim.Native.Nat.{ℕ}
 use Prim.Native.String.{String}
+use Rattle.std.specs.Prelude.{Ok}
 use Rattle.basics.specs.Lists.{padded}
 use Rattle.digits.specs.Numbers.{is_digit, all_digits, no_leading_zero, is_formed, value_from, value_of, is_number}
 use Rattle.words.specs.Bytes.{bytes, same_bytes}
@@ -17,16 +17,14 @@ pub case_a : List ℕ
 case_a = bytes "mesh\t2\t2\t6\t4\nsearch\t16\t3\nflow\t0\t1\t608\t588\t608\nflow\t0\t3\t608\t1588\t608\nflow\t2\t3\t608\t716\t608\nflow\t2\t1\t608\t948\t608\nflow\t3\t0\t608\t436\t608\n"
 
 -- it reads as its numbers
-pub case_a_reads : input_of case_a ≡ record {
-  malformed = false;
-  line = 0;
+pub case_a_reads : input_of case_a ≡ Ok (record {
   mesh = record { columns = 2; rows = 2; r = 6; flit = 4 };
   pruning = 16;
   threshold = 3;
   numbers = flows_kept
       (0 ∷ 1 ∷ 608 ∷ 588 ∷ 608 ∷ 0 ∷ 3 ∷ 608 ∷ 1588 ∷ 608 ∷ 2 ∷ 3 ∷ 608 ∷ 716 ∷ 608 ∷ 2 ∷ 1 ∷ 608 ∷ 948 ∷ 608 ∷ 3 ∷ 0 ∷ 608 ∷ 436 ∷ 608 ∷ []);
   flows = 5;
-}
+})
 unfolding case_a input_of input_in parts_of split_by onto bad_line good_line is_record fields_of same_bytes are_numbers is_number is_formed no_leading_zero all_digits is_digit value_of value_from numbers_in well_formed mesh_of all_numbers flows_kept padded
 case_a_reads = refl
 

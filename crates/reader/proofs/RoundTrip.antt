@@ -14,7 +14,7 @@ use Rattle.basics.proofs.Each.{Each}
 use Rattle.model.specs.Flows.{per_flow}
 use Rattle.model.specs.declared.flows.Mesh.{Mesh}
 use Rattle.digits.specs.Numbers.{number_of, is_digit, all_digits, is_number, value_of, decimal}
-use Rattle.digits.specs.declared.digits.Number.TheVariants.{Good}
+use Rattle.std.specs.Prelude.{Some, Ok}
 use Rattle.digits.proofs.Decimals.{reads_back, decimal_digits}
 use Rattle.digits.proofs.Spelling.{digit_low, good_number}
 use Rattle.words.specs.Bytes.{bytes, tab, feed, same_bytes}
@@ -86,11 +86,11 @@ abbrev pub Fit : List ℕ → Type 0
 Fit numbers = Each (λ (n : ℕ). n ≤ largest) numbers
 
 -- a number of 32 bits printed reads back as itself
-pub number_reads_back : (n : ℕ) → n ≤ largest → number_of 10 largest (decimal n) ≡ Good n
+pub number_reads_back : (n : ℕ) → n ≤ largest → number_of 10 largest (decimal n) ≡ Some n
 number_reads_back n h = reads_back 9 largest n h (omega arith)
 
 -- and so does one of 64 bits, in up to 20 digits, as the tries may be
-pub tries_read_back : (n : ℕ) → n < 18446744073709551616 → number_of 20 18446744073709551615 (decimal n) ≡ Good n
+pub tries_read_back : (n : ℕ) → n < 18446744073709551616 → number_of 20 18446744073709551615 (decimal n) ≡ Some n
 tries_read_back n h = reads_back 19 18446744073709551615 n (omega arith) (omega arith)
 
 -- each field is a number, and its own value
@@ -222,19 +222,17 @@ module _ (mesh : Mesh) (pruning threshold : ℕ) (flows : List (List ℕ)) (smal
   numbers₂ = line_numbers (bytes "search") (pruning ∷ threshold ∷ []) refl fit₂
 
   -- the model's lines read back as the same model
-  pub model_reads_back : input_of (model_text mesh pruning threshold flows) ≡ record {
-    malformed = false;
-    line = 0;
+  pub model_reads_back : input_of (model_text mesh pruning threshold flows) ≡ Ok (record {
     mesh = mesh;
     pruning = pruning;
     threshold = threshold;
     numbers = flows_kept (all_of flows);
     flows = length flows;
-  }
+  })
   unfolding says
   model_reads_back =
       let parts = model_first ∙ ap (λ (l : List (List ℕ)). line₁ ∷ l) model_second in
       let count : length (parts_of (model_text mesh pruning threshold flows)) - 3 ≡ length flows = omega (arith, ap length parts, flows_parts flows) in
       sym (input_good (model_text mesh pruning threshold flows) small model_good)
-      ∙ sym (says_parts line₁ line₂ (parts_of (flow_text flows)) (parts_of (model_text mesh pruning threshold flows)) parts)
+      ∙ ap Ok (sym (says_parts line₁ line₂ (parts_of (flow_text flows)) (parts_of (model_text mesh pruning threshold flows)) parts))
       ∙ rw (numbers₁, numbers₂, flows_numbers flows fit₃, count)

@@ -3,4 +3,4 @@
 
 mod reading;
 
-pub use reading::{Input, LIMIT, TEXT_BUFFER, read};
+pub use reading::{Input, LIMIT, Malformed, TEXT_BUFFER, read};

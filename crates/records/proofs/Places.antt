@@ -50,7 +50,7 @@ place_none b text from h e =
 pub place_some : (b : ℕ) (text : List ℕ) (from at : ℕ) → place_from b text from ≡ Some at → (at ≡ from + index_of b (drop from text)) × (at < length text)
 unfolding place_from
 place_some b text from at e =
-    let found = chosen_some _ _ _ e in
+    let found : (ltb (index_of b (drop from text)) (length (drop from text)) ≡ true) × (from + index_of b (drop from text) ≡ at) = chosen_some _ _ _ e in
     (sym found.1, omega (arith, ltb-true (index_of b (drop from text)) (length (drop from text)) found.0, found.1, length-drop from text))
 
 -- it is the length at most

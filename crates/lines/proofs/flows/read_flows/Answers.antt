@@ -1,28 +1,22 @@
 -- `lines::flows::read_flows` meets its contract: between two lines the loop knows `Flowing`, and each way out is a law of it.
-use mathlib.Core.Path.{◌≡◌, refl, sym, ◌∙◌, ap}
+use mathlib.Core.Path.{◌≡◌, refl, sym, ◌∙◌}
 use native.Mathlib.Omega.{arith}
-use Rattle.std.specs.Prelude.{Option, Result, Some, None, Err}
-use Rattle.std.specs.Option.{ok_or}
+use Rattle.std.specs.Prelude.{Some, None}
 use Rattle.std.proofs.lemmas.Result.{err_from_is_err_and}
 use Rattle.basics.specs.Lists.{padded}
 use Rattle.lines.specs.Form.{flows_kept}
+use Rattle.digits.proofs.Chosen.{named_error}
 use Rattle.lines.proofs.FlowLines.{flowing_begins, flowing_ends, flowing_bad, flowing_less, flowing_on}
-use Rattle.lines.specs.declared.flows.BadLine.{BadLine}
-use Rattle.lines.specs.declared.taking.Line.{Line}
 use Rattle.lines.proofs.flows.read_flows.Goals as goal
 
 pub loop-at-init : goal.loop-at-init
 unfolding flows_kept padded
 loop-at-init c = flowing_begins _ _ _ c.requires.0 c.requires.1 refl
 
--- the error is the bad line that was named
-named : (line : Option Line) (bad e : BadLine) (r : Result Line BadLine) → line ≡ None → r ≡ ok_or line bad → r ≡ Err e → bad ≡ e
-named line bad e r n f g = let h : ◌≡◌ {A = Result Line BadLine} (Err bad) (Err e) = sym (f ∙ ap (λ (l : Option Line). ok_or l bad) n) ∙ g in cc
-
 pub returns-in_err-line : goal.returns-in_err-line
 returns-in_err-line c =
     let none : c.read_line.result ≡ None = grind arith in
-    let bad = named _ _ _ _ none c.ok_or.ensures.value c.in_err-line.was in
+    let bad = named_error _ _ _ _ none c.ok_or.ensures.value c.in_err-line.was in
     let p = err_from_is_err_and c.from_residual.result c.from_residual.ensures.1 in
     rw (p.1, p.2, ← bad) (flowing_bad _ _ _ _ _ c.loop-at.invariant c.loop-at-test.true (sym c.read_line.ensures ∙ none))
 
