@@ -9,7 +9,8 @@ use lib.ListN.{get_or}
 use Rattle.routes.specs.Share.{has, shares}
 use Rattle.routes.proofs.Common.{shares_at, shares_swap}
 use Rattle.hyperperiod.specs.Hyper.{most}
-use Rattle.load.specs.Load.{Load, flow_at, span_of, path_for}
+use Rattle.load.specs.Load.{flow_at, span_of, path_for}
+use Rattle.load.specs.declared.traffic.Traffic.{Traffic}
 use Rattle.kept.specs.Kept.{start_of, spot_of}
 use Rattle.load.proofs.Paths.{path_has, path_apart}
 use Rattle.gaps.specs.Gaps.{flow_of, slots_to, spot_in, gap_in, Sweep}
@@ -20,15 +21,15 @@ use Rattle.gaps.specs.declared.gap.Swept.{Swept}
 use Rattle.gaps.proofs.Sweeping.{Sweeping, sweep_jump, sweep_apart, sweep_clear, sweep_early, sweep_none}
 
 -- the placed packet that comes k-th is a packet of a flow, and its start and occupancy are small
-pub record Next (load : Load) (by times : List ℕ) (k : ℕ) : Type 0 where
+pub record Next (traffic : Traffic) (by times : List ℕ) (k : ℕ) : Type 0 where
   pub number : get_or by k 0 < 1024
   pub soon : get_or times (get_or by k 0) 0 ≤ most
-  pub flow : get_or load.flow (get_or by k 0) 0 < 64
-  pub span : get_or load.occupancy (get_or load.flow (get_or by k 0) 0) 0 ≤ most
+  pub flow : get_or traffic.flow (get_or by k 0) 0 < 64
+  pub span : get_or traffic.occupancy (get_or traffic.flow (get_or by k 0) 0) 0 ≤ most
 
 -- so are all
-pub next_is : {load : Load} {marks by : List ℕ} {count : ℕ} {times : List ℕ} {g f begin latest from at : ℕ}
-    → Sweep load marks by count times g f begin latest from at → (k : ℕ) → k < count → Next load by times k
+pub next_is : {traffic : Traffic} {marks by : List ℕ} {count : ℕ} {times : List ℕ} {g f begin latest from at : ℕ}
+    → Sweep traffic marks by count times g f begin latest from at → (k : ℕ) → k < count → Next traffic by times k
 unfolding start_of flow_at span_of
 next_is {by = by} asks k h = record {
   number = asks.kept.listed k h;
@@ -38,78 +39,78 @@ next_is {by = by} asks k h = record {
 }
 
 -- the placed packet that comes k-th overlaps the packet that is injected at t
-pub record Facing (load : Load) (by : List ℕ) (count : ℕ) (times : List ℕ) (g f k t other end : ℕ) : Type 0 where
+pub record Facing (traffic : Traffic) (by : List ℕ) (count : ℕ) (times : List ℕ) (g f k t other end : ℕ) : Type 0 where
   pub next : k < count
-  pub other_is : other ≡ flow_of load by k
-  pub end_is : end ≡ start_of by times k + span_of load (flow_of load by k)
-  pub starts : start_of by times k < t + span_of load g
+  pub other_is : other ≡ flow_of traffic by k
+  pub end_is : end ≡ start_of by times k + span_of traffic (flow_of traffic by k)
+  pub starts : start_of by times k < t + span_of traffic g
   pub flow : other < 64
   pub past : EndAhead t end f
 
-module _ {load : Load} {marks by : List ℕ} {count : ℕ} {times : List ℕ} {g f begin latest from at : ℕ}
-    (asks : Sweep load marks by count times g f begin latest from at) {k t other end : ℕ}
-    (s : Sweeping load by count times g f begin k t) (face : Facing load by count times g f k t other end) where
+module _ {traffic : Traffic} {marks by : List ℕ} {count : ℕ} {times : List ℕ} {g f begin latest from at : ℕ}
+    (asks : Sweep traffic marks by count times g f begin latest from at) {k t other end : ℕ}
+    (s : Sweeping traffic by count times g f begin k t) (face : Facing traffic by count times g f k t other end) where
   -- a link of the placed packet is on the packet's path: it is jumped past
-  pub facing_jump : (a : ℕ) → a < get_or load.lens other 0 → has (path_for load g) (get_or load.links (other * 32 + a) 0) ≡ true
-      → Sweeping load by count times g f begin (k + 1) (time_past t end f)
+  pub facing_jump : (a : ℕ) → a < get_or traffic.lens other 0 → has (path_for traffic g) (get_or traffic.links (other * 32 + a) 0) ≡ true
+      → Sweeping traffic by count times g f begin (k + 1) (time_past t end f)
   facing_jump a h e =
-      let meets : shares (path_for load g) (path_for load other) ≡ true =
-      shares_at _ _ (get_or load.links (other * 32 + a) 0) e (path_has asks.loaded.paths other face.flow _ a h refl) in
-      sweep_jump s face.next (subst (λ (o : ℕ). shares (path_for load g) (path_for load o) ≡ true) face.other_is meets) face.starts
+      let meets : shares (path_for traffic g) (path_for traffic other) ≡ true =
+      shares_at _ _ (get_or traffic.links (other * 32 + a) 0) e (path_has asks.loaded.paths other face.flow _ a h refl) in
+      sweep_jump s face.next (subst (λ (o : ℕ). shares (path_for traffic g) (path_for traffic o) ≡ true) face.other_is meets) face.starts
       face.end_is face.past
 
   -- no link of the placed packet is on the packet's path: it is left behind
-  pub facing_apart : ((a : ℕ) → a < get_or load.lens other 0 → has (path_for load g) (get_or load.links (other * 32 + a) 0) ≡ false)
-      → Sweeping load by count times g f begin (k + 1) t
+  pub facing_apart : ((a : ℕ) → a < get_or traffic.lens other 0 → has (path_for traffic g) (get_or traffic.links (other * 32 + a) 0) ≡ false)
+      → Sweeping traffic by count times g f begin (k + 1) t
   facing_apart lacks =
-      let apart : shares (path_for load g) (path_for load other) ≡ false =
-      shares_swap (path_for load g) (path_for load other) ∙ path_apart asks.loaded.paths other face.flow _ lacks in
-      sweep_apart s face.next (subst (λ (o : ℕ). shares (path_for load g) (path_for load o) ≡ false) face.other_is apart)
+      let apart : shares (path_for traffic g) (path_for traffic other) ≡ false =
+      shares_swap (path_for traffic g) (path_for traffic other) ∙ path_apart asks.loaded.paths other face.flow _ lacks in
+      sweep_apart s face.next (subst (λ (o : ℕ). shares (path_for traffic g) (path_for traffic o) ≡ false) face.other_is apart)
 
 -- ---- where the code stands in its three loops
 
 -- at a time: what the sweep asks, and how far it is
-pub record AtTime (load : Load) (marks by : List ℕ) (count : ℕ) (times : List ℕ) (g f begin latest from at span j t : ℕ) : Type 0 where
-  pub asks : Sweep load marks by count times g f begin latest from at
-  pub span_is : span ≡ get_or load.occupancy g 0
+pub record AtTime (traffic : Traffic) (marks by : List ℕ) (count : ℕ) (times : List ℕ) (g f begin latest from at span j t : ℕ) : Type 0 where
+  pub asks : Sweep traffic marks by count times g f begin latest from at
+  pub span_is : span ≡ get_or traffic.occupancy g 0
   pub small_span : span ≤ most
-  pub swept : Sweeping load by count times g f begin j t
+  pub swept : Sweeping traffic by count times g f begin j t
   pub after : begin ≤ t
 
 -- at a placed packet: besides, the time is not past the latest, and the sweep does not go back
-pub record AtPacket (load : Load) (marks by : List ℕ) (count : ℕ) (times : List ℕ) (g f begin latest from at span j₀ j t : ℕ) : Type 0 where
-  pub asks : Sweep load marks by count times g f begin latest from at
-  pub span_is : span ≡ get_or load.occupancy g 0
+pub record AtPacket (traffic : Traffic) (marks by : List ℕ) (count : ℕ) (times : List ℕ) (g f begin latest from at span j₀ j t : ℕ) : Type 0 where
+  pub asks : Sweep traffic marks by count times g f begin latest from at
+  pub span_is : span ≡ get_or traffic.occupancy g 0
   pub small_span : span ≤ most
-  pub swept : Sweeping load by count times g f begin j t
+  pub swept : Sweeping traffic by count times g f begin j t
   pub after : begin ≤ t
   pub going : t ≤ latest
   pub ahead : j₀ ≤ j
 
 -- at a link of a placed packet that is faced: besides, no link before it is on the packet's path
-pub record AtLink (load : Load) (marks by : List ℕ) (count : ℕ) (times : List ℕ) (g f begin latest from at span j₀ j t other end a a_end : ℕ) : Type 0 where
-  pub packet : AtPacket load marks by count times g f begin latest from at span j₀ j t
-  pub facing : Facing load by count times g f j t other end
+pub record AtLink (traffic : Traffic) (marks by : List ℕ) (count : ℕ) (times : List ℕ) (g f begin latest from at span j₀ j t other end a a_end : ℕ) : Type 0 where
+  pub packet : AtPacket traffic marks by count times g f begin latest from at span j₀ j t
+  pub facing : Facing traffic by count times g f j t other end
   pub within : a ≤ a_end
-  pub lacks : (m : ℕ) → m < a → has (path_for load g) (get_or load.links (other * 32 + m) 0) ≡ false
-  pub long : a_end ≡ get_or load.lens other 0
+  pub lacks : (m : ℕ) → m < a → has (path_for traffic g) (get_or traffic.links (other * 32 + m) 0) ≡ false
+  pub long : a_end ≡ get_or traffic.lens other 0
   pub few : a_end ≤ 32
 
 -- ---- its ends
 
-module _ {load : Load} {marks by : List ℕ} {count : ℕ} {times : List ℕ} {g f begin latest from at span j t : ℕ} where
+module _ {traffic : Traffic} {marks by : List ℕ} {count : ℕ} {times : List ℕ} {g f begin latest from at span j t : ℕ} where
   -- the latest start is past
-  pub ends_past : AtTime load marks by count times g f begin latest from at span j t → latest < t → {m : ℕ} → m ≡ slots_to f begin latest
-      → SweptTo load by count times g f begin latest record { placed = Nowhere m; next = j }
+  pub ends_past : AtTime traffic marks by count times g f begin latest from at span j t → latest < t → {m : ℕ} → m ≡ slots_to f begin latest
+      → SweptTo traffic by count times g f begin latest record { placed = Nowhere m; next = j }
   ends_past s h e = record {
     found = rw e (sweep_none s.swept s.asks.some_step latest s.asks.order h);
     within = s.swept.within;
     later = λ u m z. let w : ◌≡◌ {A = ℕ} 0 1 = cc in absurd (omega arith);
   }
 
-  module _ {j₀ : ℕ} (s : AtPacket load marks by count times g f begin latest from at span j₀ j t) {m : ℕ} (e : m ≡ slots_to f begin t) where
+  module _ {j₀ : ℕ} (s : AtPacket traffic marks by count times g f begin latest from at span j₀ j t) {m : ℕ} (e : m ≡ slots_to f begin t) where
     -- the next starts when the packet is over
-    pub ends_early : j < count → t + span ≤ start_of by times j → SweptTo load by count times g f begin latest record { placed = At t m; next = j }
+    pub ends_early : j < count → t + span ≤ start_of by times j → SweptTo traffic by count times g f begin latest record { placed = At t m; next = j }
     unfolding span_of
     ends_early h l = record {
       found = rw e (sweep_early s.swept s.asks.some_step latest s.going s.asks.kept (omega (arith, s.span_is)));
@@ -121,7 +122,7 @@ module _ {load : Load} {marks by : List ℕ} {count : ℕ} {times : List ℕ} {g
     }
 
     -- all placed packets are passed
-    pub ends_clear : count ≤ j → SweptTo load by count times g f begin latest record { placed = At t m; next = j }
+    pub ends_clear : count ≤ j → SweptTo traffic by count times g f begin latest record { placed = At t m; next = j }
     ends_clear h = record {
       found = rw e (sweep_clear s.swept s.asks.some_step latest s.going h);
       within = s.swept.within;
@@ -129,16 +130,16 @@ module _ {load : Load} {marks by : List ℕ} {count : ℕ} {times : List ℕ} {g
     }
 
 -- where the packet goes, with its place among the placed packets
-module _ {load : Load} {by : List ℕ} {count : ℕ} {times : List ℕ} {g f begin latest : ℕ} {r : Swept} (ends : SweptTo load by count times g f begin latest r) where
+module _ {traffic : Traffic} {by : List ℕ} {count : ℕ} {times : List ℕ} {g f begin latest : ℕ} {r : Swept} (ends : SweptTo traffic by count times g f begin latest r) where
   -- at a time
   pub gap_at_lem : {t m : ℕ} → r.placed ≡ At t m → {k : ℕ} → k ≡ spot_of by count times t
-      → record { placed = At t m; spot = k } ≡ gap_in load by count times g f begin latest
+      → record { placed = At t m; spot = k } ≡ gap_in traffic by count times g f begin latest
   unfolding gap_in spot_in
   gap_at_lem {t} {m} e {k} here =
       ap (λ (n : ℕ). record { placed = At t m; spot = n }) here
       ∙ ap (λ (p : Placed). record { placed = p; spot = spot_in by count times p }) (sym e ∙ ends.found)
 
   -- nowhere
-  pub gap_nowhere : {m : ℕ} → r.placed ≡ Nowhere m → record { placed = Nowhere m; spot = count } ≡ gap_in load by count times g f begin latest
+  pub gap_nowhere : {m : ℕ} → r.placed ≡ Nowhere m → record { placed = Nowhere m; spot = count } ≡ gap_in traffic by count times g f begin latest
   unfolding gap_in spot_in
   gap_nowhere e = ap (λ (p : Placed). record { placed = p; spot = spot_in by count times p }) (sym e ∙ ends.found)

@@ -1,6 +1,6 @@
 -- What the inner functions of the sweep answer.
 use Rattle.std.specs.Prelude.{◌≡◌, List, ℕ, ◌+◌, ◌-◌, ◌*◌, ◌/◌, ◌≤◌, ◌<◌}
-use Rattle.load.specs.Load.{Load}
+use Rattle.load.specs.declared.traffic.Traffic.{Traffic}
 use Rattle.kept.specs.Kept.{start_of, Kept}
 use Rattle.gaps.specs.Gaps.{placed_in}
 use Rattle.gaps.specs.declared.gap.Placed.TheVariants.{At}
@@ -18,8 +18,8 @@ pub record EndAhead (t end f : ℕ) : Type 0 where
   pub small_step : f ≤ 65536
 
 -- where a sweep ends: the gap that it found, and a packet from which on all start after the gap's time
-pub record SweptTo (load : Load) (by : List ℕ) (count : ℕ) (times : List ℕ) (g f begin latest : ℕ) (r : Swept) : Type 0 where
-  pub found : r.placed ≡ placed_in load by count times g f begin latest
+pub record SweptTo (traffic : Traffic) (by : List ℕ) (count : ℕ) (times : List ℕ) (g f begin latest : ℕ) (r : Swept) : Type 0 where
+  pub found : r.placed ≡ placed_in traffic by count times g f begin latest
   pub within : r.next ≤ count
   pub later : (t m : ℕ) → r.placed ≡ At t m → (j : ℕ) → r.next ≤ j → j < count → t < start_of by times j
 

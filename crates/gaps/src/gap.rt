@@ -1,6 +1,5 @@
 // The first gap for a packet: one forward sweep over the placed packets, in order of their start.
 ghost use Rattle.std.specs.Prelude.{◌≡◌, ◌+◌, ◌-◌, ◌/◌, ◌≤◌, ◌<◌};
-ghost use Rattle.load.specs.Load.{load_of};
 ghost use Rattle.kept.specs.Kept.{spot_of};
 ghost use Rattle.gaps.specs.Gaps.{gap_in, slots_to, Sweep};
 ghost use Rattle.gaps.specs.Sweeps.{time_past, EndAhead, SweptTo, Back};

@@ -19,7 +19,7 @@ use Rattle.gaps.specs.declared.gap.Placed.{Placed}
 use Rattle.gaps.specs.declared.gap.Placed.TheVariants.{Nowhere}
 use Rattle.placing.specs.Placing.{placing_of}
 use Rattle.placing.specs.Traffic.{packets_held}
-use Rattle.placing.specs.declared.traffic.Traffic.{Traffic}
+use Rattle.load.specs.declared.traffic.Traffic.{Traffic}
 use Rattle.settling.specs.Settling.{raised, turned_away, TurnsAway}
 use Rattle.settling.specs.declared.taking.State.{State}
 use Rattle.passes.specs.Pass.{pass_from}

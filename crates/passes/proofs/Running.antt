@@ -17,8 +17,8 @@ use Rattle.marks.proofs.Marking.{honest_start, honest_stamped}
 use Rattle.gaps.specs.declared.gap.Gap.{Gap}
 use Rattle.gaps.specs.declared.gap.Placed.TheVariants.{At, Nowhere}
 use Rattle.placing.specs.Held.{place_in}
-use Rattle.placing.specs.Traffic.{load_in, packets_held}
-use Rattle.placing.specs.declared.traffic.Traffic.{Traffic}
+use Rattle.placing.specs.Traffic.{packets_held}
+use Rattle.load.specs.declared.traffic.Traffic.{Traffic}
 use Rattle.placing.proofs.Bridging.{place_spot, packets_count, held_in}
 use Rattle.settling.specs.Settling.{turned_away}
 use Rattle.settling.specs.declared.taking.State.{State}
@@ -104,7 +104,7 @@ module _ {t : Traffic} {f g : ℕ} {start : State} {n longest : ℕ} {marks : Li
         rw e (honest_stamped marks run.ready.loaded.paths (get_or t.flow (next_of s) 0)
         (run.ready.loaded.flows (next_of s) next_small) run.honest)
 
-    module _ {r : Gap} (goes : r ≡ place_in (load_in t) t.release t.due s.by s.count s.times f (next_of s))
+    module _ {r : Gap} (goes : r ≡ place_in t t.release t.due s.by s.count s.times f (next_of s))
         {after : List ℕ} (stamps : after ≡ stamped t.links (get_or t.flow (next_of s) 0) (get_or t.lens (get_or t.flow (next_of s) 0) 0) marks) {m : ℕ} where
       -- a packet is placed, and the pass goes on
       pub running_placed : {time : ℕ} → r.placed ≡ At time m → {times by : List ℕ}

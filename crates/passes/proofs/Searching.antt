@@ -12,7 +12,7 @@ use Rattle.basics.proofs.Lists.{fill_at}
 use Rattle.packet.specs.Packet.{Packet}
 use Rattle.order.specs.Order.{occurs}
 use Rattle.placing.specs.Traffic.{packets_held}
-use Rattle.placing.specs.declared.traffic.Traffic.{Traffic}
+use Rattle.load.specs.declared.traffic.Traffic.{Traffic}
 use Rattle.placing.proofs.Bridging.{packets_count, held_in}
 use Rattle.settling.specs.declared.taking.State.{State}
 use Rattle.passes.specs.Pass.{Pass, pass_over}

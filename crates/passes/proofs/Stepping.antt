@@ -28,8 +28,8 @@ use Rattle.gaps.specs.declared.gap.Placed.TheVariants.{At}
 use Rattle.twins.specs.Twins.{Stood}
 use Rattle.placing.specs.Placing.{in_the_way, free, taken_of, placing_of}
 use Rattle.placing.specs.Held.{Held, Placeable, place_in}
-use Rattle.placing.specs.Traffic.{load_in, packets_held}
-use Rattle.placing.specs.declared.traffic.Traffic.{Traffic}
+use Rattle.placing.specs.Traffic.{packets_held}
+use Rattle.load.specs.declared.traffic.Traffic.{Traffic}
 use Rattle.placing.proofs.Bridging.{ways_same, placing_same, place_spot, packets_count, held_in}
 use Rattle.settling.specs.Settling.{raised}
 use Rattle.passes.specs.Pass.{pass_from}
@@ -47,7 +47,7 @@ module _ {t : Traffic} {f g : ℕ} (ready : Ready t f g) {s : Stand} (going : Go
   abbrev ps : List Packet
   ps = packets_held t
 
-  held : Held (packets_held t) (load_in t) t.release t.due
+  held : Held (packets_held t) t t.release t.due
   held = held_in t ready.few
 
   pub few : length (packets_held t) ≤ 1024
@@ -64,7 +64,7 @@ module _ {t : Traffic} {f g : ℕ} (ready : Ready t f g) {s : Stand} (going : Go
   next_count = omega (arith, next_in_lem, packets_count t)
 
   -- a placed packet stands where there was no gap before
-  stands : (q : ℕ) → q < length (packets_held t) → (get_or s.times q 0 ≡ none → ⊥) → Stood (load_in t) t.release s.by s.count s.times f q
+  stands : (q : ℕ) → q < length (packets_held t) → (get_or s.times q 0 ≡ none → ⊥) → Stood t t.release s.by s.count s.times f q
   unfolding placed time_at free
   stands q h timed =
       let place : get_or (take (length ps) s.times) q 0 ≡ get_or s.times q 0 = get_or-take (length ps) s.times q 0 h in
@@ -87,7 +87,7 @@ module _ {t : Traffic} {f g : ℕ} (ready : Ready t f g) {s : Stand} (going : Go
 
   -- what placing it asks
   pub place_asks : {marks : List ℕ} → Honest t.lens t.links marks
-      → Placeable (load_in t) t.release t.due marks s.by s.count s.times t.longest f (next_of s)
+      → Placeable t t.release t.due marks s.by s.count s.times t.longest f (next_of s)
   place_asks honest = record {
     loaded = ready.loaded;
     honest = honest;
@@ -166,7 +166,7 @@ module _ {t : Traffic} {f g : ℕ} (ready : Ready t f g) {s : Stand} (going : Go
 
   -- ---- where it goes
 
-  module _ {r : Gap} (goes : r ≡ place_in (load_in t) t.release t.due s.by s.count s.times f (next_of s)) where
+  module _ {r : Gap} (goes : r ≡ place_in t t.release t.due s.by s.count s.times f (next_of s)) where
     -- it goes where the definition says
     pub placing : r.placed ≡ placing_of (packets_held t) f (take (length (packets_held t)) s.times) (next_of s)
     placing = ap (λ (k : Gap). k.placed) goes ∙ placing_same held going.listed next_in_lem f

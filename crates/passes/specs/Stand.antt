@@ -8,8 +8,8 @@ use Rattle.order.specs.Order.{occurs}
 use Rattle.load.specs.Load.{flow_at, span_of, Loaded}
 use Rattle.kept.specs.Kept.{Kept, Roster}
 use Rattle.placing.specs.Placing.{free}
-use Rattle.placing.specs.Traffic.{load_in, packets_held}
-use Rattle.placing.specs.declared.traffic.Traffic.{Traffic}
+use Rattle.placing.specs.Traffic.{packets_held}
+use Rattle.load.specs.declared.traffic.Traffic.{Traffic}
 use Rattle.settling.specs.declared.taking.State.{State}
 use Rattle.passes.specs.Pass.{Pass, pass_from, pass_over}
 use Rattle.passes.specs.declared.walk.Passed.{Passed}
@@ -43,16 +43,16 @@ outcome ps f g s =
 -- the packets are in time, and the settings are in their ranges
 pub record Ready (t : Traffic) (f g : ℕ) : Type 0 where
   pub few : t.count ≤ 1024
-  pub loaded : Loaded (load_in t)
+  pub loaded : Loaded t
   pub some_step : 0 < f
   pub small_step : f ≤ 65536
   pub low : 0 < g
   pub high : g ≤ 16
-  pub lasting : (p : ℕ) → p < t.count → 0 < span_of (load_in t) (flow_at (load_in t) p)
-  pub some_links : (p : ℕ) → p < t.count → 0 < get_or t.lens (flow_at (load_in t) p) 0
-  pub fits : (p : ℕ) → p < t.count → span_of (load_in t) (flow_at (load_in t) p) ≤ get_or t.due (flow_at (load_in t) p) 0
-  pub ends : (p : ℕ) → p < t.count → get_or t.release p 0 + get_or t.due (flow_at (load_in t) p) 0 ≤ most
-  pub longest_of : (h : ℕ) → h < 64 → span_of (load_in t) h ≤ t.longest
+  pub lasting : (p : ℕ) → p < t.count → 0 < span_of t (flow_at t p)
+  pub some_links : (p : ℕ) → p < t.count → 0 < get_or t.lens (flow_at t p) 0
+  pub fits : (p : ℕ) → p < t.count → span_of t (flow_at t p) ≤ get_or t.due (flow_at t p) 0
+  pub ends : (p : ℕ) → p < t.count → get_or t.release p 0 + get_or t.due (flow_at t p) 0 ≤ most
+  pub longest_of : (h : ℕ) → h < 64 → span_of t h ≤ t.longest
 
 -- what is carried over the passes: the list holds packets, each at most once, with fail counts below G
 pub record Carried (ps : List Packet) (g : ℕ) (s : State) : Type 0 where

@@ -2,7 +2,7 @@
 ghost use Rattle.passes.specs.Search.{Searches, Searched};
 
 use crate::walk::pass;
-use placing::Traffic;
+use load::Traffic;
 use settling::State;
 
 // What the passes leave: the table, the passes begun, and the times tried.

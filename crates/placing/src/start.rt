@@ -1,6 +1,5 @@
 // Placing one packet among those placed.
 ghost use Rattle.std.specs.Prelude.{◌≡◌, get_or};
-ghost use Rattle.load.specs.Load.{load_of};
 ghost use Rattle.kept.specs.Kept.{Kept};
 ghost use Rattle.marks.specs.Marks.{stamped};
 ghost use Rattle.placing.specs.Held.{Over, Placeable, place_in};

@@ -30,7 +30,7 @@ use Rattle.arrays.proofs.Entries.{occupancy_entry, path_entry, flow_entry}
 use Rattle.arrays.proofs.Reading.{read_count, read_at, model_count, packet_in_lem, path_in_lem}
 use Rattle.load.specs.Load.{flow_at, span_of, path_in}
 use Rattle.placing.specs.Traffic.{packet_held, packets_held}
-use Rattle.placing.specs.declared.traffic.Traffic.{Traffic}
+use Rattle.load.specs.declared.traffic.Traffic.{Traffic}
 use Rattle.placing.proofs.Bridging.{packets_count, packets_at}
 use Rattle.passes.specs.Passes.{search_from}
 use Rattle.passes.specs.Stand.{Ready}

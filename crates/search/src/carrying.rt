@@ -11,7 +11,7 @@ use arrays::Model;
 use keys::slacks;
 use order::by_flow;
 use passes::{Outcome, rounds};
-use placing::Traffic;
+use load::Traffic;
 use routes::Path;
 
 // The links with those of one more path, in its flow's places.

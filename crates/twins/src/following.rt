@@ -1,6 +1,6 @@
 // The time from which on a gap for a packet is sought: behind its twin, if it has one that is placed.
 ghost use Rattle.std.specs.Prelude.{◌≡◌, ◌<◌};
-ghost use Rattle.load.specs.Load.{load_of, Paths};
+ghost use Rattle.load.specs.Load.{Paths};
 ghost use Rattle.twins.specs.Twins.{same_path, is_twin, resume_at, Pair, Resume};
 
 use gaps::time_past;

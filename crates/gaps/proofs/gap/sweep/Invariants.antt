@@ -1,6 +1,5 @@
 -- `sweep` goes forward over the placed packets. The invariants of its three loops are `AtTime`, `AtPacket` and `AtLink`.
 use Prim.Native.Nat.{◌-◌}
-use Rattle.load.specs.Load.{load_of}
 use Rattle.gaps.proofs.Facing.{AtTime, AtPacket, AtLink}
 use Rattle.gaps.proofs.gap.sweep.Given as goal
 

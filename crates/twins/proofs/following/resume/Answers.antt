@@ -7,20 +7,21 @@ use Prim.Native.Nat.{ℕ, ◌-◌, ◌≤◌, ◌<◌}
 use native.Mathlib.Omega.{arith}
 use borrow.Author.Tests.{lt-ltb, le-ltb, le-leb, lt-leb}
 use Rattle.hyperperiod.specs.Hyper.{most}
-use Rattle.load.specs.Load.{Load, flow_at, span_of}
+use Rattle.load.specs.Load.{flow_at, span_of}
+use Rattle.load.specs.declared.traffic.Traffic.{Traffic}
 use Rattle.twins.specs.Twins.{is_twin, resume_at, Resume}
 use Rattle.twins.proofs.Twinning.{twin_timed}
 use Rattle.twins.proofs.following.resume.Goals as goal
 
 -- a twin so many packets before p starts soon, and holds its links for some cycles and not for long
-behind : {load : Load} (release : List ℕ) {times : List ℕ} {f p back : ℕ} → Resume load times f p → 1 ≤ back → back ≤ p
-    → is_twin load release times p (p - back) ≡ true
-    → (get_or times (p - back) 0 ≤ most) × (0 < span_of load (flow_at load (p - back))) × (span_of load (flow_at load (p - back)) ≤ most)
-behind {load} release {times} {f} {p} {back} s some within e =
+behind : {traffic : Traffic} (release : List ℕ) {times : List ℕ} {f p back : ℕ} → Resume traffic times f p → 1 ≤ back → back ≤ p
+    → is_twin traffic release times p (p - back) ≡ true
+    → (get_or times (p - back) 0 ≤ most) × (0 < span_of traffic (flow_at traffic (p - back))) × (span_of traffic (flow_at traffic (p - back)) ≤ most)
+behind {traffic} release {times} {f} {p} {back} s some within e =
     let before : p - back < p = omega arith in (
-      s.soon (p - back) before (twin_timed load release times p (p - back) e),
+      s.soon (p - back) before (twin_timed traffic release times p (p - back) e),
       s.lasting (p - back) before,
-      s.loaded.spans (flow_at load (p - back)) (s.loaded.flows (p - back) (omega (arith, s.packet))),
+      s.loaded.spans (flow_at traffic (p - back)) (s.loaded.flows (p - back) (omega (arith, s.packet))),
     )
 
 pub returns-then-back-lt1 : goal.returns-then-back-lt1
