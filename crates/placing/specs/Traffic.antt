@@ -5,10 +5,6 @@ use Rattle.packet.specs.Packet.{Packet}
 use Rattle.load.specs.Load.{flow_at, span_of, path_for}
 use Rattle.load.specs.declared.traffic.Traffic.{Traffic}
 
--- what the packets hold
-abbrev pub load_in : Traffic → Traffic
-t = load_of t.flow t.occupancy t.lens t.links
-
 -- packet p, read off the arrays; the search does not know of turns
 unfoldable pub packet_held : Traffic → ℕ → Packet
 packet_held t p = record {
