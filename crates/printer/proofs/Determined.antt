@@ -1,5 +1,5 @@
--- A piece, and the buffer lent for it, follow from the arguments: any two that the contract allows are equal, wherever the same numbers
--- are kept.
+-- Every public function's answer, and the buffer lent to it, follow from its arguments: any two that its contract allows are equal,
+-- wherever the same numbers are kept.
 use mathlib.Core.Path.{◌≡◌, sym, ◌∙◌, ap}
 use mathlib.Core.List.{List}
 use Prim.Native.Nat.{ℕ}
@@ -9,9 +9,11 @@ use borrow.Fn.Kinds.{Dens, res_t, ended_of}
 use lib.ListN.{length}
 use Rattle.model.specs.declared.answers.Answer.{Answer}
 use Rattle.words.specs.Writer.{in_front}
-use Rattle.printer.specs.Printer.{piece_in, next_in, piece_of, Printed}
+use Rattle.printer.specs.Printer.{piece_in, next_in, piece_of, is_done as done_at, Printed}
 use Rattle.printer.specs.declared.printing.Cursor.{Cursor}
 use Rattle.printer.specs.declared.printing.Piece.{Piece}
+use Rattle.printer.proofs.printing.Cursor.is_done.Reads as is_done
+use Rattle.printer.proofs.printing.Cursor.is_done.Kinds as is_done_kinds
 use Rattle.printer.proofs.printing.put_piece.Reads as put_piece
 use Rattle.printer.proofs.printing.put_piece.Kinds as put_piece_kinds
 
@@ -43,3 +45,13 @@ pub put_piece_determined : (κs λs : Lfts 4) (a : Dens κs put_piece_kinds.ps) 
     → put_piece.Post κs a x s → put_piece.Post λs b y t
     → (x ≡ y) × (s.1.1.1.1.1.0.now ≡ t.1.1.1.1.1.0.now)
 put_piece_determined κs λs a b x y s t c e f g h i p q = printed_once _ _ _ _ _ _ _ _ _ _ _ _ _ _ _ _ c e f g h i p q
+
+-- whether nothing is left at a cursor
+pub is_done_determined : (κs λs : Lfts 0) (a : Dens κs is_done_kinds.ps) (b : Dens λs is_done_kinds.ps)
+    (x : (res_t is_done_kinds.r κs).Denot) (y : (res_t is_done_kinds.r λs).Denot)
+    (s : AtExit (ended_of 0 is_done_kinds.ps is_done_kinds.r) κs)
+    (t : AtExit (ended_of 0 is_done_kinds.ps is_done_kinds.r) λs)
+    → a.0 ≡ b.0
+    → is_done.Post κs a x s → is_done.Post λs b y t
+    → x ≡ y
+is_done_determined κs λs a b x y s t c p q = p ∙ ap done_at c ∙ sym q

@@ -1,4 +1,5 @@
--- The laws of the text piece by piece; then examples, and that each piece is determined.
+-- The laws of the text piece by piece, and line by line; then examples, and that each answer is determined.
+pub mod ByLine
 pub mod Determined
 pub mod Examples
 pub mod Pieces

@@ -6,11 +6,12 @@ use Prim.Native.Nat.{ℕ, zero, suc, ◌+◌, ◌-◌, ◌≤◌, ◌<◌}
 use native.Mathlib.Omega.{arith}
 use borrow.Author.Tests.{lt-ltb, le-ltb, ltb-true, ltb-false}
 use lib.Dec.{ltb}
-use lib.ListN.{length, get_or, drop, length-append}
+use lib.ListN.{length, get_or, take, drop, length-append}
+use lib.Seq.{take-append_seam}
 use Rattle.model.specs.declared.answers.Answer.{Answer}
 use Rattle.words.specs.Writer.{Put, in_front}
 use Rattle.words.proofs.Putting.{put_front}
-use Rattle.printer.specs.Printer.{table_line, inject_line, refuse_line, prints_table, inject_of, inject_lines, end_for, output_of, piece_at, cursor_after, is_done, longest, piece_in, next_in, piece_of, Printed, rest_of, pieces_left, pieces_of}
+use Rattle.printer.specs.Printer.{table_line, inject_line, refuse_line, prints_table, inject_of, inject_lines, end_for, output_of, piece_at, cursor_after, longest, piece_in, next_in, piece_of, Printed, rest_of, pieces_left, pieces_of}
 use Rattle.printer.specs.declared.printing.Cursor.{Cursor}
 use Rattle.printer.specs.declared.printing.Cursor.TheVariants.{First, Packet, Done}
 use Rattle.printer.specs.declared.printing.Piece.{Piece}
@@ -38,8 +39,8 @@ module _ (answer : Answer) where
 
 -- a buffer with no room
 pub no_room : (answer : Answer) (table flows turns before : List ℕ) (cursor : Cursor) → length before < longest
-    → Printed answer table flows turns before before cursor (record { len = 0; next = Done; done = true })
-unfolding piece_in next_in piece_of is_done in_front
+    → Printed answer table flows turns before before cursor (record { len = 0; next = Done })
+unfolding piece_in next_in piece_of in_front
 no_room answer table flows turns before cursor h = record {
   answer_is = sym (rw (lt-ltb (length before) longest h));
   buffer_is = sym (rw (lt-ltb (length before) longest h));
@@ -50,18 +51,18 @@ module _ (answer : Answer) (table flows turns : List ℕ) where
     -- a line that was put in front of the buffer
     pub a_line : (cursor next : Cursor) (text : List ℕ) (len : ℕ) → piece_at answer table flows turns cursor ≡ text → cursor_after answer cursor ≡ next
         → Put longest before after 0 text len
-        → Printed answer table flows turns before after cursor (record { len = len; next = next; done = is_done next })
+        → Printed answer table flows turns before after cursor (record { len = len; next = next })
     unfolding piece_in next_in piece_of
     a_line cursor next text len e f p = record {
       answer_is =
           rw (le-ltb (length before) longest h, e, f)
-          (ap (λ (k : ℕ). record { len = k; next = next; done = is_done next }) (p.place ∙ (let k : 0 + length text ≡ length text = omega arith in k)));
+          (ap (λ (k : ℕ). record { len = k; next = next }) (p.place ∙ (let k : 0 + length text ≡ length text = omega arith in k)));
       buffer_is = rw (le-ltb (length before) longest h, e) (put_front longest before after text len p);
     }
 
     -- behind all lines
-    pub no_line_lem : after ≡ before → Printed answer table flows turns before after Done (record { len = 0; next = Done; done = true })
-    unfolding piece_in next_in piece_of piece_at cursor_after is_done in_front
+    pub no_line_lem : after ≡ before → Printed answer table flows turns before after Done (record { len = 0; next = Done })
+    unfolding piece_in next_in piece_of piece_at cursor_after in_front
     no_line_lem e = record {
       answer_is = sym (rw (le-ltb (length before) longest h));
       buffer_is = rw (le-ltb (length before) longest h) e;
@@ -170,3 +171,18 @@ module _ (answer : Answer) (table flows turns before after : List ℕ) (cursor :
   piece_fits =
       let text = piece_in (length before) answer table flows turns cursor in
       omega (arith, piece_length, ap length p.buffer_is, length-append text (drop (length text) before))
+
+  -- with room for any line, the line at the cursor is what stands in front
+  pub line_stands : longest ≤ length before → take piece.len after ≡ piece_at answer table flows turns cursor
+  unfolding piece_in in_front
+  line_stands h =
+      let text = piece_in (length before) answer table flows turns cursor in
+      ap (λ (k : ℕ). take k after) piece_length
+      ∙ ap (take (length text)) p.buffer_is
+      ∙ take-append_seam text (drop (length text) before)
+      ∙ rw (le-ltb (length before) longest h)
+
+  -- and the cursor behind it is next
+  pub next_stands : longest ≤ length before → piece.next ≡ cursor_after answer cursor
+  unfolding piece_of next_in
+  next_stands h = ap (λ (x : Piece). x.next) p.answer_is ∙ rw (le-ltb (length before) longest h)

@@ -1,2 +1,3 @@
 -- The text that is printed.
 pub mod Printer
+pub mod ByLine

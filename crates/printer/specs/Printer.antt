@@ -1,5 +1,5 @@
 -- The text that is printed: table, inject and end lines, or one refuse line; and the same text piece by piece.
-use Rattle.std.specs.Prelude.{◌≡◌, Bool, true, false, List, [], ◌++◌, ℕ, zero, suc, ◌+◌, ◌-◌, eqb, ltb, length, get_or}
+use Rattle.std.specs.Prelude.{◌≡◌, Bool, true, false, List, [], ◌∷◌, ◌++◌, ℕ, zero, suc, ◌+◌, ◌-◌, eqb, ltb, length, get_or}
 use Rattle.basics.specs.Choose.{either, choose}
 use Rattle.model.specs.declared.answers.Answer.{Answer}
 use Rattle.words.specs.Bytes.{bytes}
@@ -7,6 +7,8 @@ use Rattle.words.specs.Fields.{field, ended, time_field}
 use Rattle.words.specs.Writer.{in_front}
 use Rattle.printer.specs.declared.printing.Cursor.{Cursor}
 use Rattle.printer.specs.declared.printing.Cursor.TheVariants.{First, Packet, Done}
+use Rattle.printer.specs.declared.printing.Field.{Field}
+use Rattle.printer.specs.declared.printing.Field.TheVariants.{Number, Time}
 use Rattle.printer.specs.declared.printing.Piece.{Piece}
 
 -- ---- lines
@@ -26,6 +28,18 @@ end_line passes tries skipped = bytes "end" ++ field passes ++ field tries ++ fi
 -- `refuse`: number, place
 unfoldable pub refuse_line : ℕ → ℕ → List ℕ
 refuse_line number place = bytes "refuse" ++ field number ++ field place ++ ended
+
+-- ---- the fields of a line
+
+-- a field as text: a number, or a time with the word `none` for a skipped packet
+unfoldable pub field_text : Field → List ℕ
+field_text (Number n) = field n
+field_text (Time time) = time_field time
+
+-- a line: what stands in front, the fields behind it, one after the other, and the line feed
+unfoldable pub line_of : List ℕ → List Field → List ℕ
+line_of front [] = front ++ ended
+line_of front (f ∷ fields) = line_of (front ++ field_text f) fields
 
 -- ---- the whole text
 
@@ -86,9 +100,9 @@ piece_in room answer table flows turns cursor = choose (ltb room longest) [] (pi
 unfoldable pub next_in : ℕ → Answer → Cursor → Cursor
 next_in room answer cursor = choose (ltb room longest) Done (cursor_after answer cursor)
 
--- the piece: how long its line is, the cursor behind it, and whether nothing is left there
+-- the piece: how long its line is, and the cursor behind it
 unfoldable pub piece_of : List ℕ → Cursor → Piece
-piece_of text next = record { len = length text; next = next; done = is_done next }
+piece_of text next = record { len = length text; next = next }
 
 -- what the printer answers, and what stands in the buffer then
 pub record Printed (answer : Answer) (table flows turns before after : List ℕ) (cursor : Cursor) (piece : Piece) : Type 0 where
@@ -106,10 +120,6 @@ unfoldable pub pieces_left : Answer → Cursor → ℕ
 pieces_left answer First = answer.packets + 2
 pieces_left answer (Packet p) = answer.packets - p + 1
 pieces_left answer Done = 0
-
--- the most lines of an answer: the table line, 1,024 packets and the end line
-abbrev pub most_lines : ℕ
-most_lines = 1024 + 2
 
 -- the pieces of n steps, one after the other
 unfoldable pub pieces_of : Answer → List ℕ → List ℕ → List ℕ → ℕ → Cursor → List ℕ

@@ -1,6 +1,10 @@
 // The printer.
 #![tactic(auto)]
 
+mod line;
 mod printing;
+mod text;
 
-pub use printing::{Cursor, LINE, MOST_LINES, Piece, put_piece};
+pub use line::Line;
+pub use printing::{Cursor, LINE, Piece, put_piece};
+pub use text::Lines;

@@ -1,8 +1,7 @@
 // The printer: the output text, one line at a time.
-ghost use Rattle.std.specs.Prelude.{◌≡◌, ◌++◌, ◌+◌, ◌≤◌, length, get_or};
-ghost use Rattle.words.specs.Fields.{field, ended};
+ghost use Rattle.std.specs.Prelude.{◌≡◌, ◌+◌, ◌≤◌, length};
 ghost use Rattle.words.specs.Writer.{Put};
-ghost use Rattle.printer.specs.Printer.{inject_line, end_line, prints_table, longest, Printed};
+ghost use Rattle.printer.specs.Printer.{prints_table, is_done, field_text, line_of, longest, Printed};
 ghost use Rattle.printer.specs.declared.printing.Cursor.TheVariants.{First, Packet};
 
 use model::Answer;
@@ -10,9 +9,6 @@ use words::{END, FEED, INJECT, REFUSE, TABLE, put_byte, put_field, put_time, put
 
 // A buffer of so many bytes has room for any line.
 pub const LINE: usize = 96;
-
-// The most lines of an answer: the table line, 1,024 packets and the end line.
-pub const MOST_LINES: usize = 1024 + 2;
 
 // Where the printer stands: before the first line, before a packet's line (or the end line, behind the last packet), or behind all.
 #[derive(Clone, Copy)]
@@ -22,78 +18,60 @@ pub enum Cursor {
     Done,
 }
 
-// What was printed: the length of the line in the buffer, the cursor behind it, and whether nothing is left there.
+impl Cursor {
+    // Whether nothing is left at the cursor.
+    #[tactic(auto, unfolding(crate::specs::Printer::is_done))]
+    pub fn is_done(self) -> bool
+        ensures { result ≡ is_done self }
+    {
+        matches!(self, Cursor::Done)
+    }
+}
+
+// What was printed: the length of the line in the buffer, and the cursor behind it.
 #[derive(Clone, Copy)]
 pub struct Piece {
     pub len: usize,
     pub next: Cursor,
-    pub done: bool,
-}
-
-// The number at a place of a list, 0 past its end.
-fn number_at(list: &[u16], at: usize) -> u64
-    ensures { result ≡ get_or list.now at 0 }
-{
-    if at < list.len() {
-        return list[at] as u64;
-    }
-    0
-}
-
-// The time at a place of a table, 0 past its end.
-fn time_at(table: &[u32], at: usize) -> u32
-    ensures { result ≡ get_or table.now at 0 }
-{
-    if at < table.len() {
-        return table[at];
-    }
-    0
 }
 
 // Whether a number prints the table.
+#[tactic(auto, unfolding(crate::specs::Printer::prints_table))]
 fn prints_table(number: u32) -> bool
     ensures { result ≡ prints_table number }
 {
-    if number == 0 {
-        return true;
+    matches!(number, 0 | 13)
+}
+
+// A field of a line: a number, or a time that may be the word for a skipped packet.
+#[derive(Clone, Copy)]
+enum Field {
+    Number(u64),
+    Time(u32),
+}
+
+// A tab and a field.
+#[tactic(auto, unfolding(crate::specs::Printer::field_text))]
+fn put(out: &mut [u8], at: usize, field: Field) -> usize
+    requires { at + 21 ≤ length out.old }
+    ensures { Put 21 out.old out.new at (field_text field) result }
+{
+    match field {
+        Field::Number(n) => put_field(out, at, n),
+        Field::Time(time) => put_time(out, at, time),
     }
-    number == 13
 }
 
-// A line of a word and two numbers.
-fn put_two(out: &mut [u8], word: &[u8], a: u64, b: u64) -> usize
-    requires { (length word.now ≤ 6) × (longest ≤ length out.old) }
-    ensures { Put longest out.old out.new 0 (word.now ++ field a ++ field b ++ ended) result }
+// A line of a word and fields.
+fn put_line(out: &mut [u8], word: &[u8], fields: &[Field]) -> usize
+    requires { (length word.now ≤ 6) × (length fields.now ≤ 4) × (longest ≤ length out.old) }
+    ensures { Put longest out.old out.new 0 (line_of word.now fields.now) result }
 {
-    let one = put_word(out, 0, word);
-    let two = put_field(out, one, a);
-    let three = put_field(out, two, b);
-    put_byte(out, three, FEED)
-}
-
-// An end line.
-fn put_end(out: &mut [u8], passes: u64, tries: u64, skipped: u64) -> usize
-    requires { longest ≤ length out.old }
-    ensures { Put longest out.old out.new 0 (end_line passes tries skipped) result }
-{
-    let one = put_word(out, 0, &END);
-    let two = put_field(out, one, passes);
-    let three = put_field(out, two, tries);
-    let four = put_field(out, three, skipped);
-    put_byte(out, four, FEED)
-}
-
-// An inject line.
-fn put_inject(out: &mut [u8], packet: u64, flow: u64, turn: u64, time: u32) -> usize
-    requires { longest ≤ length out.old }
-    ensures { Put longest out.old out.new 0 (inject_line packet flow turn time) result }
-{
-    let one = put_word(out, 0, &INJECT);
-    let two = put_field(out, one, packet);
-    let three = put_field(out, two, flow);
-    let four = put_field(out, three, turn);
-    let five = put_time(out, four, time);
-    put_byte(out, five, FEED)
+    let mut next = put_word(out, 0, word);
+    for field in fields {
+        next = put(out, next, *field);
+    }
+    put_byte(out, next, FEED)
 }
 
 // The first line: the table line, or the refuse line, behind which nothing is left.
@@ -102,18 +80,24 @@ fn put_first(answer: Answer, table: &[u32], flows: &[u16], turns: &[u16], out: &
     ensures { Printed answer table.now flows.now turns.now out.old out.new First result }
 {
     if prints_table(answer.number) {
-        let len = put_two(out, &TABLE, answer.hyper as u64, answer.packets as u64);
+        let fields = [
+            Field::Number(answer.hyper as u64),
+            Field::Number(answer.packets as u64),
+        ];
+        let len = put_line(out, &TABLE, &fields);
         return Piece {
             len,
             next: Cursor::Packet(0),
-            done: false,
         };
     }
-    let len = put_two(out, &REFUSE, answer.number as u64, answer.place as u64);
+    let fields = [
+        Field::Number(answer.number as u64),
+        Field::Number(answer.place as u64),
+    ];
+    let len = put_line(out, &REFUSE, &fields);
     Piece {
         len,
         next: Cursor::Done,
-        done: true,
     }
 }
 
@@ -131,26 +115,30 @@ fn put_packet(
 {
     if p < answer.packets {
         let at = p as usize;
-        let flow = number_at(flows, at);
-        let turn = number_at(turns, at);
-        let time = time_at(table, at);
-        let len = put_inject(out, p as u64, flow, turn, time);
+        let flow = flows.get(at).copied().unwrap_or(0);
+        let turn = turns.get(at).copied().unwrap_or(0);
+        let time = table.get(at).copied().unwrap_or(0);
+        let fields = [
+            Field::Number(p as u64),
+            Field::Number(flow as u64),
+            Field::Number(turn as u64),
+            Field::Time(time),
+        ];
+        let len = put_line(out, &INJECT, &fields);
         return Piece {
             len,
             next: Cursor::Packet(p + 1),
-            done: false,
         };
     }
-    let len = put_end(
-        out,
-        answer.passes as u64,
-        answer.tries,
-        answer.skipped as u64,
-    );
+    let fields = [
+        Field::Number(answer.passes as u64),
+        Field::Number(answer.tries),
+        Field::Number(answer.skipped as u64),
+    ];
+    let len = put_line(out, &END, &fields);
     Piece {
         len,
         next: Cursor::Done,
-        done: true,
     }
 }
 
@@ -169,7 +157,6 @@ pub fn put_piece(
         return Piece {
             len: 0,
             next: Cursor::Done,
-            done: true,
         };
     }
     match cursor {
@@ -178,7 +165,6 @@ pub fn put_piece(
         Cursor::Done => Piece {
             len: 0,
             next: Cursor::Done,
-            done: true,
         },
     }
 }

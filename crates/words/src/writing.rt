@@ -21,10 +21,9 @@ pub fn put_word(out: &mut [u8], at: usize, word: &[u8]) -> usize
     requires { at + length word.now ≤ length out.old }
     ensures { Put (length word.now) out.old out.new at word.now result }
 {
-    for i in 0..word.len() {
-        out[at + i] = word[i];
-    }
-    at + word.len()
+    let next = at + word.len();
+    out[at..next].copy_from_slice(word);
+    next
 }
 
 // A number in digits.

@@ -1,7 +1,0 @@
--- `vectors::answers::put_fields` is safe and ends after eight fields: the line keeps its length.
-use mathlib.Core.Path.{◌≡◌}
-use lib.ListN.{length}
-use Rattle.vectors.proofs.answers.put_fields.Given as goal
-
-abbrev pub invariant-loop-i : goal.invariant-loop-i
-invariant-loop-i l = length l.line ≡ length l.initial.line
