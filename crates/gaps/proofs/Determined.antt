@@ -7,7 +7,7 @@ use Rattle.gaps.proofs.gap.time_past.Kinds as time_past_kinds
 use Rattle.gaps.proofs.gap.gap_for.Kinds as gap_for_kinds
 
 -- the first gap
-pub gap_for_determined : Determined 7 gap_for_kinds.ps gap_for_kinds.r gap_for.Post
+pub gap_for_determined : Determined 4 gap_for_kinds.ps gap_for_kinds.r gap_for.Post
 gap_for_determined κs a x y s t p q = p ∙ sym q
 
 -- the first time past an end

@@ -1,5 +1,4 @@
 -- The laws of the sweep, and that the answer is determined.
 pub mod Sweeping
-pub mod Backing
 pub mod Facing
 pub mod Determined

@@ -1,10 +1,10 @@
 // The first gap for a packet: one forward sweep over the placed packets, in order of their start.
-ghost use Rattle.std.specs.Prelude.{◌≡◌, ◌+◌, ◌-◌, ◌/◌, ◌≤◌, ◌<◌};
-ghost use Rattle.load.specs.Load.{load_of};
-ghost use Rattle.kept.specs.Kept.{spot_of};
-ghost use Rattle.gaps.specs.Gaps.{gap_in, slots_to, Sweep};
-ghost use Rattle.gaps.specs.Sweeps.{time_past, EndAhead, SweptTo, Back};
+ghost use Rattle.std.specs.Prelude.{◌≡◌, ◌≤◌, ◌<◌};
+ghost use Rattle.gaps.specs.Gaps.{gap_for, placed_for, slots_to, Seeks};
+ghost use Rattle.gaps.specs.Sweeps.{time_past, EndAhead};
 
+use kept::Taken;
+use load::Traffic;
 use marks::has_mark;
 use mesh::ALL_LINKS;
 
@@ -22,11 +22,26 @@ pub struct Gap {
     pub spot: usize,
 }
 
-// Where a sweep ended: where the packet goes, and the placed packet that would have come next.
+// What a gap is sought for: a packet of a flow, at its times from begin up to the latest, in steps of the pruning factor. It is sought
+// from a time on before which there is none, among the placed packets from one on before which all are over then.
 #[derive(Clone, Copy)]
-pub struct Swept {
-    pub placed: Placed,
-    pub next: usize,
+pub struct Sought {
+    pub own: usize,
+    pub pruning: u32,
+    pub begin: u32,
+    pub latest: u32,
+    pub from: u32,
+    pub at: usize,
+}
+
+impl Sought {
+    // How many of its times there are up to a time.
+    fn times_to(&self, time: u32) -> u32
+        requires { (self.now.begin ≤ time) × (0 < self.now.pruning) × (time ≤ 50331648) }
+        ensures { result ≡ slots_to self.now.pruning self.now.begin time }
+    {
+        (time - self.begin) / self.pruning + 1
+    }
 }
 
 // The first of the times t, t + F and so on that is at an end or past it. Every cycle is a time where the pruning factor is 1.
@@ -41,135 +56,69 @@ pub fn time_past(t: u32, end: u32, pruning: u32) -> u32
     t + (end - t + pruning - 1) / pruning * pruning
 }
 
-// How many of the times begin, begin + F and so on there are up to a time.
-fn times_to(begin: u32, time: u32, pruning: u32) -> u32
-    requires { (begin ≤ time) × (0 < pruning) × (time ≤ 50331648) }
-    ensures { result ≡ slots_to pruning begin time }
-{
-    (time - begin) / pruning + 1
-}
-
-// The first gap for a packet of a flow, of the times from begin up to the latest, in steps of the pruning factor; it is sought from a
-// time on before which there is none. Where a placed packet is in the way, so it is at every time before its end: the next time is the first at its end or past it, and those jumped over count as tried. Placed
-// packets that are over stay over, so the sweep never goes back; one that starts after the packet's end ends it, since all later ones
-// start later.
+// The first gap. Where a placed packet is in the way, so it is at every time before its end: the next time is the first at its end or
+// past it, and those jumped over count as tried. Placed packets that are over stay over, so the sweep never goes back; one that starts
+// after the packet's end ends it, since all later ones start later.
 fn sweep(
-    by: &[u16; 1024],
-    count: usize,
-    times: &[u32; 1024],
-    flow: &[u16; 1024],
-    occupancy: &[u32; 64],
-    marks: &[u8; ALL_LINKS],
-    lens: &[usize; 64],
-    links: &[u16; 2048],
-    own: usize,
-    pruning: u32,
-    begin: u32,
-    latest: u32,
-    from: u32,
-    at: usize,
-) -> Swept
-    requires { Sweep (load_of flow.now occupancy.now lens.now links.now) marks.now by.now count times.now own pruning begin latest from at }
-    ensures { SweptTo (load_of flow.now occupancy.now lens.now links.now) by.now count times.now own pruning begin latest result }
+    traffic: &Traffic,
+    taken: &Taken,
+    marks: &[Option<u8>; ALL_LINKS],
+    sought: &Sought,
+) -> Placed
+    requires { Seeks traffic.now marks.now taken.now sought.now }
+    ensures { result ≡ placed_for traffic.now taken.now sought.now }
 {
-    let span = occupancy[own];
-    let mut j = at;
-    let mut t = from;
+    let span = traffic.occupancy[sought.own];
+    let mut j = sought.at;
+    let mut t = sought.from;
     'times: loop {
-        if latest < t {
-            break Swept {
-                placed: Placed::Nowhere {
-                    tries: times_to(begin, latest, pruning),
-                },
-                next: j,
+        if sought.latest < t {
+            break Placed::Nowhere {
+                tries: sought.times_to(sought.latest),
             };
         }
-        while j < count {
-            let q = by[j] as usize;
-            let start = times[q];
+        // Kept: where the walk stands among the placed packets outlasts each turn of the outer loop, so no iterator of one turn has it.
+        while j < taken.count {
+            let q = taken.by[j] as usize;
+            let start = taken.times[q];
             if t + span <= start {
-                break 'times Swept {
-                    placed: Placed::At {
-                        time: t,
-                        tries: times_to(begin, t, pruning),
-                    },
-                    next: j,
-                };
+                break;
             }
-            let other = flow[q] as usize;
-            let end = start + occupancy[other];
+            let other = traffic.flow[q] as usize;
+            let end = start + traffic.occupancy[other];
+            j += 1;
             if end <= t {
-                j += 1;
                 continue;
             }
-            for a in 0..lens[other] {
-                if has_mark(marks, own, links[other * 32 + a]) {
-                    t = time_past(t, end, pruning);
-                    j += 1;
+            let path = traffic.path(other);
+            for &link in path {
+                if has_mark(marks, sought.own, link) {
+                    t = time_past(t, end, sought.pruning);
                     continue 'times;
                 }
             }
-            j += 1;
         }
-        break Swept {
-            placed: Placed::At {
-                time: t,
-                tries: times_to(begin, t, pruning),
-            },
-            next: j,
+        break Placed::At {
+            time: t,
+            tries: sought.times_to(t),
         };
     }
 }
 
-// Walks back from a placed packet to the first that starts after a time.
-fn back_to(by: &[u16; 1024], count: usize, times: &[u32; 1024], next: usize, time: u32) -> usize
-    requires { Back by.now count times.now next time }
-    ensures { result ≡ spot_of by.now count times.now time }
-{
-    let mut k = next;
-    while 0 < k {
-        let q = by[k - 1] as usize;
-        if times[q] <= time {
-            return k;
-        }
-        k -= 1;
-    }
-    0
-}
-
 // The first gap, and where among the placed packets the packet is put in.
 pub fn gap_for(
-    by: &[u16; 1024],
-    count: usize,
-    times: &[u32; 1024],
-    flow: &[u16; 1024],
-    occupancy: &[u32; 64],
-    marks: &[u8; ALL_LINKS],
-    lens: &[usize; 64],
-    links: &[u16; 2048],
-    own: usize,
-    pruning: u32,
-    begin: u32,
-    latest: u32,
-    from: u32,
-    at: usize,
+    traffic: &Traffic,
+    taken: &Taken,
+    marks: &[Option<u8>; ALL_LINKS],
+    sought: &Sought,
 ) -> Gap
-    requires { Sweep (load_of flow.now occupancy.now lens.now links.now) marks.now by.now count times.now own pruning begin latest from at }
-    ensures { result ≡ gap_in (load_of flow.now occupancy.now lens.now links.now) by.now count times.now own pruning begin latest }
+    requires { Seeks traffic.now marks.now taken.now sought.now }
+    ensures { result ≡ gap_for traffic.now taken.now sought.now }
 {
-    let swept = sweep(
-        by, count, times, flow, occupancy, marks, lens, links, own, pruning, begin, latest, from,
-        at,
-    );
-    let placed = swept.placed;
-    match placed {
-        Placed::At { time, tries } => Gap {
-            placed: Placed::At { time, tries },
-            spot: back_to(by, count, times, swept.next, time),
-        },
-        Placed::Nowhere { tries } => Gap {
-            placed: Placed::Nowhere { tries },
-            spot: count,
-        },
-    }
+    let placed = sweep(traffic, taken, marks, sought);
+    let spot = match placed {
+        Placed::At { time, .. } => taken.first_after(time),
+        Placed::Nowhere { .. } => taken.count,
+    };
+    Gap { placed, spot }
 }

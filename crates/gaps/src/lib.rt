@@ -3,4 +3,4 @@
 
 mod gap;
 
-pub use gap::{Gap, Placed, gap_for, time_past};
+pub use gap::{Gap, Placed, Sought, gap_for, time_past};

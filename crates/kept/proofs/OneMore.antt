@@ -17,7 +17,8 @@ use Rattle.packet.proofs.Placed.{placed_new, placed_other}
 use Rattle.order.specs.Lists.{shifted}
 use Rattle.order.proofs.Shifting.{shifted_before, shifted_at, shifted_moved, shifted_length}
 use Rattle.order.proofs.Halving.{after_within, after_below, after_above}
-use Rattle.kept.specs.Kept.{start_of, spot_of, Kept, Roster}
+use Rattle.kept.specs.Kept.{start_of, spot_of, added, Kept, Roster}
+use Rattle.kept.specs.declared.finding.Taken.{Taken}
 
 -- number j of the list with one more: as it was, the new one, or the one that was before
 data Where (by more : List ℕ) (at count p j : ℕ) : Type 0 where
@@ -43,66 +44,70 @@ find by at count p j h long l =
     ]
 
 -- what putting in a packet with a time comes with: room for it, and that it is not there yet
-pub record Adding (by : List ℕ) (count : ℕ) (times : List ℕ) (time p : ℕ) : Type 0 where
-  pub kept : Kept by count times
-  pub room : count < 1024
+pub record Adding (taken : Taken) (time p : ℕ) : Type 0 where
+  pub kept : Kept taken
+  pub room : taken.count < 1024
   pub packet : p < 1024
   pub soon : time ≤ most
-  pub new : (j : ℕ) → j < count → get_or by j 0 ≡ p → ⊥
+  pub new : (j : ℕ) → j < taken.count → get_or taken.by j 0 ≡ p → ⊥
 
-module _ {by : List ℕ} {count : ℕ} {times : List ℕ} {time p : ℕ} (adding : Adding by count times time p) where
+module _ {taken : Taken} {time p : ℕ} (adding : Adding taken time p) where
   -- where it is put in
   abbrev at : ℕ
-  at = spot_of by count times time
+  at = spot_of taken time
 
-  -- the list with it
+  -- the placed packets with it
+  abbrev then : Taken
+  then = added taken at p time
+
+  -- their list
   abbrev more : List ℕ
-  more = shifted by at count p
+  more = shifted taken.by at taken.count p
 
   -- the times with its own
   abbrev after_times : List ℕ
-  after_times = set times p time
+  after_times = set taken.times p time
 
   -- the place is among them
-  pub spot_within : at ≤ count
+  pub spot_within : at ≤ taken.count
   unfolding spot_of
-  spot_within = after_within (start_of by times) count time _ refl
+  spot_within = after_within (start_of taken) taken.count time _ refl
 
   -- there is room behind them
-  long : count < length by
+  long : taken.count < length taken.by
   long = omega (arith, adding.room, adding.kept.by_long)
 
   -- what stands where
-  spot : (j : ℕ) → j < count + 1 → Where by more at count p j
-  spot j l = find by at count p j spot_within long l
+  spot : (j : ℕ) → j < taken.count + 1 → Where taken.by more at taken.count p j
+  spot j l = find taken.by at taken.count p j spot_within long l
 
   -- the starts of the others do not change
-  other_start : (j : ℕ) → j < count → get_or after_times (get_or by j 0) 0 ≡ start_of by times j
+  other_start : (j : ℕ) → j < taken.count → get_or after_times (get_or taken.by j 0) 0 ≡ start_of taken j
   unfolding start_of
-  other_start j l = get_or-set_other times p (get_or by j 0) time 0 (adding.new j l)
+  other_start j l = get_or-set_other taken.times p (get_or taken.by j 0) time 0 (adding.new j l)
 
   -- the start of the new one is its time
   new_start : get_or after_times p 0 ≡ time
-  new_start = get_or-set_same times p time 0 (omega (arith, adding.packet, adding.kept.times_long))
+  new_start = get_or-set_same taken.times p time 0 (omega (arith, adding.packet, adding.kept.times_long))
 
   -- the start of number j, by what it is
-  start_of_lem : (j m n : ℕ) → get_or more j 0 ≡ m → get_or after_times m 0 ≡ n → start_of more after_times j ≡ n
+  start_of_lem : (j m n : ℕ) → get_or more j 0 ≡ m → get_or after_times m 0 ≡ n → start_of then j ≡ n
   unfolding start_of
   start_of_lem j m n e f = ap (λ (q : ℕ). get_or after_times q 0) e ∙ f
 
   -- what holds of the starts of the others and of the time holds of each start
-  each_start : (P : ℕ → Type 0) → ((i : ℕ) → i < count → P (start_of by times i)) → P time → (j : ℕ) → j < count + 1
-      → P (start_of more after_times j)
+  each_start : (P : ℕ → Type 0) → ((i : ℕ) → i < taken.count → P (start_of taken i)) → P time → (j : ℕ) → j < taken.count + 1
+      → P (start_of then j)
   each_start P others this j l = go (spot j l)
     where
-      go : Where by more at count p j → P (start_of more after_times j)
+      go : Where taken.by more at taken.count p j → P (start_of then j)
       go (before a e) = subst P (sym (start_of_lem j _ _ e (other_start j (omega (arith, spot_within))))) (others j (omega (arith, spot_within)))
       go (here a e) = subst P (sym (start_of_lem j _ _ e new_start)) this
       go (after i a b d e) = subst P (sym (start_of_lem j _ _ e (other_start i d))) (others i d)
 
   -- of two, the one before starts no later
-  rises : (i j : ℕ) → i ≤ j → Where by more at count p i → Where by more at count p j
-      → start_of more after_times i ≤ start_of more after_times j
+  rises : (i j : ℕ) → i ≤ j → Where taken.by more at taken.count p i → Where taken.by more at taken.count p j
+      → start_of then i ≤ start_of then j
   unfolding spot_of
   rises i j l (before a e) (before b f) =
       let si = start_of_lem i _ _ e (other_start i (omega (arith, spot_within))) in
@@ -111,7 +116,7 @@ module _ {by : List ℕ} {count : ℕ} {times : List ℕ} {time p : ℕ} (adding
   rises i j l (before a e) (here b f) =
       let si = start_of_lem i _ _ e (other_start i (omega (arith, spot_within))) in
       let sj = start_of_lem j _ _ f new_start in
-      omega (arith, after_below (start_of by times) count time at refl i a)
+      omega (arith, after_below (start_of taken) taken.count time at refl i a)
   rises i j l (before a e) (after k b d n f) =
       let si = start_of_lem i _ _ e (other_start i (omega (arith, spot_within))) in
       let sj = start_of_lem j _ _ f (other_start k n) in
@@ -124,7 +129,7 @@ module _ {by : List ℕ} {count : ℕ} {times : List ℕ} {time p : ℕ} (adding
   rises i j l (here a e) (after k b d n f) =
       let si = start_of_lem i _ _ e new_start in
       let sj = start_of_lem j _ _ f (other_start k n) in
-      omega (arith, after_above (start_of by times) count time at refl adding.kept.rising k d n)
+      omega (arith, after_above (start_of taken) taken.count time at refl adding.kept.rising k d n)
   rises i j l (after k a d n e) (before b f) = absurd (omega arith)
   rises i j l (after k a d n e) (here b f) = absurd (omega arith)
   rises i j l (after k a d n e) (after m b o q f) =
@@ -133,56 +138,56 @@ module _ {by : List ℕ} {count : ℕ} {times : List ℕ} {time p : ℕ} (adding
       omega (arith, adding.kept.rising k m (omega arith) q)
 
   -- what holds of the numbers of the others and of the new one holds of each
-  each_number : (P : ℕ → Type 0) → ((i : ℕ) → i < count → P (get_or by i 0)) → P p → (j : ℕ) → j < count + 1 → P (get_or more j 0)
+  each_number : (P : ℕ → Type 0) → ((i : ℕ) → i < taken.count → P (get_or taken.by i 0)) → P p → (j : ℕ) → j < taken.count + 1 → P (get_or more j 0)
   each_number P others this j l = go (spot j l)
     where
-      go : Where by more at count p j → P (get_or more j 0)
+      go : Where taken.by more at taken.count p j → P (get_or more j 0)
       go (before a e) = subst P (sym e) (others j (omega (arith, spot_within)))
       go (here a e) = subst P (sym e) this
       go (after i a b d e) = subst P (sym e) (others i d)
 
   -- the list is kept
-  pub kept_more : Kept (shifted by (spot_of by count times time) count p) (count + 1) (set times p time)
+  pub kept_more : Kept (added taken (spot_of taken time) p time)
   kept_more = record {
     few = omega (arith, adding.room);
-    by_long = shifted_length by at count p spot_within long ∙ adding.kept.by_long;
-    times_long = length-set times p time ∙ adding.kept.times_long;
+    by_long = shifted_length taken.by at taken.count p spot_within long ∙ adding.kept.by_long;
+    times_long = length-set taken.times p time ∙ adding.kept.times_long;
     listed = each_number (λ (q : ℕ). q < 1024) adding.kept.listed adding.packet;
     soon = each_start (λ (s : ℕ). s ≤ most) adding.kept.soon adding.soon;
     rising = λ i j l k. rises i j l (spot i (omega arith)) (spot j k);
   }
 
   -- where a number is that was number j
-  moved : (j : ℕ) → j < count → (i : ℕ) × (i < count + 1) × (get_or more i 0 ≡ get_or by j 0)
+  moved : (j : ℕ) → j < taken.count → (i : ℕ) × (i < taken.count + 1) × (get_or more i 0 ≡ get_or taken.by j 0)
   moved j l =
       elim (dec_le at j) [
-        | no a ↦ (j, omega arith, shifted_before by at count p spot_within long j (lt_of_not-le a))
-        | yes a ↦ (j + 1, omega arith, shifted_moved by at count p spot_within long j a l)
+        | no a ↦ (j, omega arith, shifted_before taken.by at taken.count p spot_within long j (lt_of_not-le a))
+        | yes a ↦ (j + 1, omega arith, shifted_moved taken.by at taken.count p spot_within long j a l)
       ]
 
   -- where the new one is
-  put : (i : ℕ) × (i < count + 1) × (get_or more i 0 ≡ p)
-  put = (at, omega (arith, spot_within), shifted_at by at count p spot_within long)
+  put : (i : ℕ) × (i < taken.count + 1) × (get_or more i 0 ≡ p)
+  put = (at, omega (arith, spot_within), shifted_at taken.by at taken.count p spot_within long)
 
 -- a packet that is not placed is not listed
-not_listed : {ps : List Packet} {by : List ℕ} {count : ℕ} {times : List ℕ} → Roster ps by count times → {p : ℕ}
-    → placed (take (length ps) times) p ≡ false → (j : ℕ) → j < count → get_or by j 0 ≡ p → ⊥
-not_listed {ps} {times = times} listed e j h f =
-    false≢true (sym e ∙ subst (λ (q : ℕ). placed (take (length ps) times) q ≡ true) f (listed.timed j h))
+not_listed : {ps : List Packet} {taken : Taken} → Roster ps taken → {p : ℕ}
+    → placed (take (length ps) taken.times) p ≡ false → (j : ℕ) → j < taken.count → get_or taken.by j 0 ≡ p → ⊥
+not_listed {ps} {taken = taken} listed e j h f =
+    false≢true (sym e ∙ subst (λ (q : ℕ). placed (take (length ps) taken.times) q ≡ true) f (listed.timed j h))
 
 -- what a packet's taking a time comes with: it is one of the packets, and not placed yet
-pub record Taking (ps : List Packet) (by : List ℕ) (count : ℕ) (times : List ℕ) (time p : ℕ) : Type 0 where
-  pub kept : Kept by count times
-  pub listed : Roster ps by count times
-  pub room : count < 1024
+pub record Taking (ps : List Packet) (taken : Taken) (time p : ℕ) : Type 0 where
+  pub kept : Kept taken
+  pub listed : Roster ps taken
+  pub room : taken.count < 1024
   pub few : length ps ≤ 1024
   pub packet : p < length ps
   pub soon : time ≤ most
-  pub fresh : placed (take (length ps) times) p ≡ false
+  pub fresh : placed (take (length ps) taken.times) p ≡ false
 
-module _ {ps : List Packet} {by : List ℕ} {count : ℕ} {times : List ℕ} {time p : ℕ} (taking : Taking ps by count times time p) where
+module _ {ps : List Packet} {taken : Taken} {time p : ℕ} (taking : Taking ps taken time p) where
   -- so it can be put in
-  pub adds : Adding by count times time p
+  pub adds : Adding taken time p
   adds = record {
     kept = taking.kept;
     room = taking.room;
@@ -192,28 +197,28 @@ module _ {ps : List Packet} {by : List ℕ} {count : ℕ} {times : List ℕ} {ti
   }
 
   -- the table with one more time
-  pub table_more : take (length ps) (set times p time) ≡ set (take (length ps) times) p time
-  table_more = take-set-lt (length ps) times p time taking.packet
+  pub table_more : take (length ps) (set taken.times p time) ≡ set (take (length ps) taken.times) p time
+  table_more = take-set-lt (length ps) taken.times p time taking.packet
 
   -- the packet is placed
-  placed_this : placed (take (length ps) (set times p time)) p ≡ true
+  placed_this : placed (take (length ps) (set taken.times p time)) p ≡ true
   placed_this =
       ap (λ (t : List ℕ). placed t p) table_more
-      ∙ placed_new (take (length ps) times) p time
-      (omega (arith, taking.packet, length-take-le (length ps) times (omega (arith, taking.kept.times_long, taking.few))))
+      ∙ placed_new (take (length ps) taken.times) p time
+      (omega (arith, taking.packet, length-take-le (length ps) taken.times (omega (arith, taking.kept.times_long, taking.few))))
       (omega (arith, taking.soon))
 
   -- and so are those that were
-  pub placed_same : (q : ℕ) → (q ≡ p → ⊥) → placed (take (length ps) (set times p time)) q ≡ placed (take (length ps) times) q
-  placed_same q ne = ap (λ (t : List ℕ). placed t q) table_more ∙ placed_other (take (length ps) times) p time q ne
+  pub placed_same : (q : ℕ) → (q ≡ p → ⊥) → placed (take (length ps) (set taken.times p time)) q ≡ placed (take (length ps) taken.times) q
+  placed_same q ne = ap (λ (t : List ℕ). placed t q) table_more ∙ placed_other (take (length ps) taken.times) p time q ne
 
   -- the list with one more lists the packets of the table with one more time
-  pub listed_more : Roster ps (shifted by (spot_of by count times time) count p) (count + 1) (set times p time)
+  pub listed_more : Roster ps (added taken (spot_of taken time) p time)
   listed_more = record {
     inside = each_number adds (λ (q : ℕ). q < length ps) taking.listed.inside taking.packet;
     timed =
-        each_number adds (λ (q : ℕ). placed (take (length ps) (set times p time)) q ≡ true)
-        (λ i l. placed_same (get_or by i 0) (adds.new i l) ∙ taking.listed.timed i l) placed_this;
+        each_number adds (λ (q : ℕ). placed (take (length ps) (set taken.times p time)) q ≡ true)
+        (λ i l. placed_same (get_or taken.by i 0) (adds.new i l) ∙ taking.listed.timed i l) placed_this;
     all = λ q l f.
         elim (ℕ_discrete q p) [
           | yes a ↦ let w = put adds in (w.0, w.1, w.2 ∙ sym a)

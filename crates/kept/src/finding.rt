@@ -2,21 +2,24 @@
 ghost use Rattle.std.specs.Prelude.{◌≡◌};
 ghost use Rattle.kept.specs.Kept.{spot_of, Kept};
 
-// The first of the placed packets, in order of start, that starts after a time; by halves.
-pub fn first_after(by: &[u16; 1024], count: usize, times: &[u32; 1024], time: u32) -> usize
-    requires { Kept by.now count times.now }
-    ensures { result ≡ spot_of by.now count times.now time }
-{
-    let mut low = 0;
-    let mut high = count;
-    while low < high {
-        let middle = low + (high - low) / 2;
-        let q = by[middle] as usize;
-        if times[q] <= time {
-            low = middle + 1;
-        } else {
-            high = middle;
-        }
+// The packets placed in a pass: the time of each, and their numbers in order of start, which are the first count of by.
+#[derive(Clone, Copy)]
+pub struct Taken {
+    pub times: [u32; 1024],
+    pub by: [u16; 1024],
+    pub count: usize,
+}
+
+impl Taken {
+    // The first of the placed packets, in order of start, that starts after a time; by halves.
+    pub fn first_after(&self, time: u32) -> usize
+        requires { Kept self.now }
+        ensures { result ≡ spot_of self.now time }
+    {
+        self.by[..self.count].partition_point(|q| {
+            self.times
+                .get(*q as usize)
+                .is_some_and(|start| *start <= time)
+        })
     }
-    low
 }

@@ -3,4 +3,4 @@
 
 mod finding;
 
-pub use finding::first_after;
+pub use finding::Taken;

@@ -1,2 +1,3 @@
--- The laws of paths in one array of links.
+-- The laws of paths, and that the answer is determined.
 pub mod Paths
+pub mod Determined

@@ -1,35 +1,41 @@
--- A flow's path in the array of links: its length, its links, when a link is on it, and when it shares none.
+-- A flow's path: its length, its links, when a link is on it, and when it shares none.
 use mathlib.Core.Path.{◌≡◌, ◌∙◌, ap}
 use mathlib.Core.Bool.{true, false}
 use mathlib.Core.List.{List}
-use Prim.Native.Nat.{ℕ, ◌+◌, ◌*◌, ◌<◌}
+use Prim.Native.Nat.{ℕ, ◌≤◌, ◌<◌}
 use native.Mathlib.Omega.{arith}
-use lib.ListN.{length, get_or, drop, length-drop}
-use lib.Seq.{length-take-le, get_or-take, get_or-drop}
+use lib.ListN.{length, get_or}
+use lib.Seq.{length-take-le, get_or-take}
 use Rattle.basics.proofs.First.{some_none}
+use Rattle.mesh.specs.Link.{all_links}
+use Rattle.routes.specs.Route.{links_of}
 use Rattle.routes.specs.Share.{has, shares}
+use Rattle.routes.specs.declared.paths.Path.{Path}
 use Rattle.routes.proofs.Common.{has_at}
-use Rattle.load.specs.Load.{path_in, Paths}
+use Rattle.load.specs.Load.{no_path, path_in, Paths}
 
-module _ {lens links : List ℕ} (paths : Paths lens links) (g : ℕ) (flow : g < 64) where
+module _ {paths : List Path} (good : Paths paths) (g : ℕ) (flow : g < 64) where
   -- it has as many links as it says
-  pub path_length : length (path_in lens links g) ≡ get_or lens g 0
-  unfolding path_in
-  path_length = length-take-le (get_or lens g 0) (drop (g * 32) links) (omega (arith, length-drop (g * 32) links, paths.short g flow, paths.long))
+  pub path_length : length (path_in paths g) ≡ (get_or paths g no_path).len
+  unfolding path_in links_of
+  path_length = length-take-le (get_or paths g no_path).len (get_or paths g no_path).links (omega (arith, good.short g flow, good.whole g flow))
 
-  -- and they stand in its 32 places
-  pub path_at : (a : ℕ) → a < get_or lens g 0 → get_or (path_in lens links g) a 0 ≡ get_or links (g * 32 + a) 0
-  unfolding path_in
-  path_at a h = get_or-take (get_or lens g 0) (drop (g * 32) links) a 0 h ∙ get_or-drop (g * 32) links a 0
+  -- at most 32
+  pub path_short : length (path_in paths g) ≤ 32
+  path_short = omega (arith, path_length, good.short g flow)
 
-  -- a link at one of them is on the path
-  pub path_has : (link a : ℕ) → a < get_or lens g 0 → get_or links (g * 32 + a) 0 ≡ link → has (path_in lens links g) link ≡ true
-  path_has link a h e = has_at (path_in lens links g) link a (omega (arith, path_length)) (path_at a h ∙ e)
+  -- each has the number of a link
+  pub path_number : (a : ℕ) → a < length (path_in paths g) → get_or (path_in paths g) a 0 < all_links
+  unfolding path_in links_of
+  path_number a h =
+      let l : a < (get_or paths g no_path).len = omega (arith, path_length) in
+      omega (
+        arith,
+        get_or-take (get_or paths g no_path).len (get_or paths g no_path).links a 0 l,
+        good.numbers g flow a (omega (arith, good.short g flow)),
+      )
 
-  -- a path none of whose links is on it shares none
-  pub path_apart : (other : List ℕ) → ((a : ℕ) → a < get_or lens g 0 → has other (get_or links (g * 32 + a) 0) ≡ false)
-      → shares (path_in lens links g) other ≡ false
-  unfolding shares
-  path_apart other lacks = some_none _ _ (λ a h.
-      let l : a < get_or lens g 0 = omega (arith, path_length) in
-      ap (has other) (path_at a l) ∙ lacks a l)
+-- a path none of whose links is on another shares none
+pub path_apart : (path other : List ℕ) → ((a : ℕ) → a < length path → has other (get_or path a 0) ≡ false) → shares path other ≡ false
+unfolding shares
+path_apart path other lacks = some_none _ _ lacks

@@ -1,2 +1,6 @@
-// What packets hold, as the search has it in arrays. There is no code here: see specs/ and proofs/.
+// What the search reads of a model: what packets hold.
 #![tactic(auto)]
+
+mod traffic;
+
+pub use traffic::Traffic;

@@ -10,8 +10,8 @@ use Rattle.marks.proofs.marks.has_mark.Reads as has_mark
 use Rattle.marks.proofs.marks.has_mark.Kinds as has_mark_kinds
 
 -- the marks of a path made
-pub stamp_determined : (κs : Lfts 3) (a : Dens κs stamp_kinds.ps) (x y : (res_t stamp_kinds.r κs).Denot)
-    (s t : AtExit (ended_of 3 stamp_kinds.ps stamp_kinds.r) κs) → stamp.Post κs a x s → stamp.Post κs a y t → s.0.now ≡ t.0.now
+pub stamp_determined : (κs : Lfts 2) (a : Dens κs stamp_kinds.ps) (x y : (res_t stamp_kinds.r κs).Denot)
+    (s t : AtExit (ended_of 2 stamp_kinds.ps stamp_kinds.r) κs) → stamp.Post κs a x s → stamp.Post κs a y t → s.0.now ≡ t.0.now
 stamp_determined κs a x y s t p q = p ∙ sym q
 
 -- whether a link has the mark of a flow

@@ -1,19 +1,25 @@
 -- Marks of the links of paths.
-use Rattle.std.specs.Prelude.{◌≡◌, true, List, ℕ, zero, suc, ◌+◌, ◌*◌, ◌<◌, eqb, length, get_or, set}
+use Rattle.std.specs.Prelude.{◌≡◌, Bool, true, List, Option, None, Some, ℕ, zero, suc, ◌<◌, eqb, length, get_or, set}
+use Rattle.std.specs.Option.{option_eq}
 use Rattle.routes.specs.Share.{has}
+use Rattle.routes.specs.declared.paths.Path.{Path}
 use Rattle.mesh.specs.Link.{all_links}
 use Rattle.load.specs.Load.{path_in}
 
--- the marks of the first n links of flow g made
-unfoldable pub stamped : List ℕ → ℕ → ℕ → List ℕ → List ℕ
-stamped links g zero marks = marks
-stamped links g (suc n) marks = set (stamped links g n marks) (get_or links (g * 32 + n) 0) (g + 1)
+-- the marks of the first n links of a path made, for flow g
+unfoldable pub stamped : List ℕ → ℕ → ℕ → List (Option ℕ) → List (Option ℕ)
+stamped path g zero marks = marks
+stamped path g (suc n) marks = set (stamped path g n marks) (get_or path n 0) (Some g)
+
+-- a link has the mark of flow g
+unfoldable pub has_mark : List (Option ℕ) → ℕ → ℕ → Bool
+has_mark marks g link = option_eq eqb (get_or marks link None) (Some g)
 
 -- no mark lies: a link with the mark of a flow is on its path
-pub record Honest (lens links marks : List ℕ) : Type 0 where
+pub record Honest (paths : List Path) (marks : List (Option ℕ)) : Type 0 where
   pub long : length marks ≡ all_links
-  pub tells : (g link : ℕ) → g < 64 → get_or marks link 0 ≡ g + 1 → has (path_in lens links g) link ≡ true
+  pub tells : (g link : ℕ) → g < 64 → get_or marks link None ≡ Some g → has (path_in paths g) link ≡ true
 
 -- a link has the mark of flow g exactly where it is on its path
-pub record Marked (lens links marks : List ℕ) (g : ℕ) : Type 0 where
-  pub exact : (link : ℕ) → eqb (get_or marks link 0) (g + 1) ≡ has (path_in lens links g) link
+pub record Marked (paths : List Path) (marks : List (Option ℕ)) (g : ℕ) : Type 0 where
+  pub exact : (link : ℕ) → has_mark marks g link ≡ has (path_in paths g) link

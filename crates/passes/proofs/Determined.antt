@@ -9,7 +9,7 @@ use Rattle.passes.proofs.repeat.rounds.Reads as rounds
 use Rattle.passes.proofs.repeat.rounds.Kinds as rounds_kinds
 
 -- what the passes leave
-pub rounds_determined : (κs : Lfts 0) (a : Dens κs rounds_kinds.ps) (x y : (res_t rounds_kinds.r κs).Denot)
-    (s t : AtExit (ended_of 0 rounds_kinds.ps rounds_kinds.r) κs) → rounds.Post κs a x s → rounds.Post κs a y t
-    → found_of a.1.0.count x ≡ found_of a.1.0.count y
+pub rounds_determined : (κs : Lfts 1) (a : Dens κs rounds_kinds.ps) (x y : (res_t rounds_kinds.r κs).Denot)
+    (s t : AtExit (ended_of 1 rounds_kinds.ps rounds_kinds.r) κs) → rounds.Post κs a x s → rounds.Post κs a y t
+    → found_of a.1.0.now.count x ≡ found_of a.1.0.now.count y
 rounds_determined κs a x y s t p q = p.same ∙ sym q.same

@@ -1,13 +1,13 @@
 -- One step of a pass where no time will do: the packet moves to the front, or is skipped.
 use mathlib.Core.Path.{◌≡◌, sym, ◌∙◌, ap, ap₂}
-use mathlib.Core.Bool.{Bool, true, false}
+use mathlib.Core.Bool.{Bool, false}
 use mathlib.Core.List.{List}
 use Prim.Native.Nat.{ℕ, ◌+◌, ◌≤◌, ◌<◌}
 use native.Mathlib.Decide.{ℕ_discrete}
 use native.Mathlib.Omega.{arith}
 use lib.ListN.{length, get_or, set, take, length-set}
 use lib.Seq.{slice, get_or-set_same, get_or-set_other, take-set-lt}
-use borrow.Author.Tests.{ltb-true, ltb-false}
+use borrow.Author.Tests.{lt-ltb, le-ltb}
 use Rattle.basics.specs.Choose.{choose}
 use Rattle.packet.specs.Packet.{Packet}
 use Rattle.packet.specs.Table.{packet_at}
@@ -19,7 +19,7 @@ use Rattle.gaps.specs.declared.gap.Placed.{Placed}
 use Rattle.gaps.specs.declared.gap.Placed.TheVariants.{Nowhere}
 use Rattle.placing.specs.Placing.{placing_of}
 use Rattle.placing.specs.Traffic.{packets_held}
-use Rattle.placing.specs.declared.traffic.Traffic.{Traffic}
+use Rattle.load.specs.declared.traffic.Traffic.{Traffic}
 use Rattle.settling.specs.Settling.{raised, turned_away, TurnsAway}
 use Rattle.settling.specs.declared.taking.State.{State}
 use Rattle.passes.specs.Pass.{pass_from}
@@ -59,13 +59,13 @@ module _ {t : Traffic} {f g : ℕ} (ready : Ready t f g) {s : Stand} (going : Go
   fronted_at base = record { order = fronted; fails = failed; base = base }
 
   -- so is the state once it was turned away, below G and at it
-  turned_broken : (turned_away s.state s.at (next_of s) g).again ≡ true → (turned_away s.state s.at (next_of s) g).state ≡ fronted_at s.state.base
+  turned_broken : raised s.state.fails (next_of s) < g → turned_away s.state s.at (next_of s) g ≡ fronted_at s.state.base
   unfolding turned_away
-  turned_broken h = ap (λ (below : Bool). fronted_at (choose below s.state.base (s.state.base + 1))) h
+  turned_broken h = ap (λ (below : Bool). fronted_at (choose below s.state.base (s.state.base + 1))) (lt-ltb _ _ h)
 
-  turned_skipped : (turned_away s.state s.at (next_of s) g).again ≡ false → (turned_away s.state s.at (next_of s) g).state ≡ fronted_at (s.state.base + 1)
+  turned_skipped : g ≤ raised s.state.fails (next_of s) → turned_away s.state s.at (next_of s) g ≡ fronted_at (s.state.base + 1)
   unfolding turned_away
-  turned_skipped h = ap (λ (below : Bool). fronted_at (choose below s.state.base (s.state.base + 1))) h
+  turned_skipped h = ap (λ (below : Bool). fronted_at (choose below s.state.base (s.state.base + 1))) (le-ltb _ _ h)
 
   -- the definition's fail counts
   fails_same : set (fails_of (length ps) s.state) (next_of s) (raised (fails_of (length ps) s.state) (next_of s)) ≡ take (length ps) failed
@@ -148,64 +148,55 @@ module _ {t : Traffic} {f g : ℕ} (ready : Ready t f g) {s : Stand} (going : Go
         ];
   }
 
-  -- which side of G the fail count is on
-  below_is : (turned_away s.state s.at (next_of s) g).again ≡ true → fail < g
-  unfolding turned_away
-  below_is h = ltb-true fail g h
-
-  above_is : (turned_away s.state s.at (next_of s) g).again ≡ false → g ≤ fail
-  unfolding turned_away
-  above_is h = ltb-false fail g h
-
   -- ---- no time will do
 
-  module _ {r : Placed} (placing : r ≡ placing_of (packets_held t) f (take (length (packets_held t)) s.times) (next_of s)) {m : ℕ} (nowhere : r ≡ Nowhere m) where
-    e : placing_of ps f (take (length ps) s.times) (next_of s) ≡ Nowhere m
+  module _ {r : Placed} (placing : r ≡ placing_of (packets_held t) f (take (length (packets_held t)) s.taken.times) (next_of s)) {m : ℕ} (nowhere : r ≡ Nowhere m) where
+    e : placing_of ps f (take (length ps) s.taken.times) (next_of s) ≡ Nowhere m
     e = sym placing ∙ nowhere
 
     pub all_few : m ≤ 16777217
     all_few =
-        omega (arith, placing_nowhere ps f (take (length ps) s.times) (next_of s) m e, slots_few f (packet_at ps (next_of s)), latest_small ready going more)
+        omega (arith, placing_nowhere ps f (take (length ps) s.taken.times) (next_of s) m e, slots_few f (packet_at ps (next_of s)), latest_small ready going more)
 
     -- below G the pass is broken off: what it leaves
-    pub broken_outcome : (turned_away s.state s.at (next_of s) g).again ≡ true
+    pub broken_outcome : raised s.state.fails (next_of s) < g
         → record {
           whole = false;
-          list = list_of (length (packets_held t)) (turned_away s.state s.at (next_of s) g).state;
-          fails = fails_of (length (packets_held t)) (turned_away s.state s.at (next_of s) g).state;
-          table = take (length (packets_held t)) s.times;
+          list = list_of (length (packets_held t)) (turned_away s.state s.at (next_of s) g);
+          fails = fails_of (length (packets_held t)) (turned_away s.state s.at (next_of s) g);
+          table = take (length (packets_held t)) s.taken.times;
           tries = s.tries + m;
         } ≡ outcome (packets_held t) f g s
     unfolding list_of fails_of
     broken_outcome h =
         rw (turned_broken h)
         (sym
-        (here ready going more ∙ pass_broken ps f g (next_of s) _ _ _ _ s.tries m e (rw (rises ready going more) (below_is h))
-        ∙ ap₂ (λ (list fails : List ℕ). record { whole = false; list = list; fails = fails; table = take (length ps) s.times; tries = s.tries + m })
+        (here ready going more ∙ pass_broken ps f g (next_of s) _ _ _ _ s.tries m e (rw (rises ready going more) h)
+        ∙ ap₂ (λ (list fails : List ℕ). record { whole = false; list = list; fails = fails; table = take (length ps) s.taken.times; tries = s.tries + m })
         (sym (list_moved s.state.order s.state.base s.at (length ps) going.low more (long ready going more))) fails_same))
 
     -- and what is carried over
-    pub broken_carries : (turned_away s.state s.at (next_of s) g).again ≡ true → Carried (packets_held t) g (turned_away s.state s.at (next_of s) g).state
-    broken_carries h = rw (turned_broken h) (broken_carried (below_is h))
+    pub broken_carries : raised s.state.fails (next_of s) < g → Carried (packets_held t) g (turned_away s.state s.at (next_of s) g)
+    broken_carries h = rw (turned_broken h) (broken_carried h)
 
     -- at G it is skipped: the pass leaves the same
-    pub skipped_outcome : (turned_away s.state s.at (next_of s) g).again ≡ false
-        → outcome (packets_held t) f g (stand_of (turned_away s.state s.at (next_of s) g).state s.times s.by s.count (s.at + 1) (s.tries + m))
+    pub skipped_outcome : g ≤ raised s.state.fails (next_of s)
+        → outcome (packets_held t) f g (stand_of (turned_away s.state s.at (next_of s) g) s.taken (s.at + 1) (s.tries + m))
         ≡ outcome (packets_held t) f g s
     unfolding outcome fails_of
     skipped_outcome h =
         rw (turned_skipped h)
         (sym
-        (here ready going more ∙ pass_skipped ps f g (next_of s) _ _ _ _ s.tries m e (rw (rises ready going more) (above_is h))
-        ∙ ap₂ (λ (rest kept : List ℕ). pass_from ps f g rest kept (set (fails_of (length ps) s.state) (next_of s) (raised (fails_of (length ps) s.state) (next_of s))) (take (length ps) s.times) (s.tries + m))
+        (here ready going more ∙ pass_skipped ps f g (next_of s) _ _ _ _ s.tries m e (rw (rises ready going more) h)
+        ∙ ap₂ (λ (rest kept : List ℕ). pass_from ps f g rest kept (set (fails_of (length ps) s.state) (next_of s) (raised (fails_of (length ps) s.state) (next_of s))) (take (length ps) s.taken.times) (s.tries + m))
         (sym (rest_moved s.state.order s.state.base s.at (length ps) going.low more (long ready going more)))
         (sym (taken_moved s.state.order s.state.base s.at (length ps) going.low more (long ready going more)))
-        ∙ ap (λ (fails : List ℕ). pass_from ps f g (slice (s.at + 1) (length ps) fronted) (slice (s.state.base + 1) (s.at + 1) fronted) fails (take (length ps) s.times) (s.tries + m))
+        ∙ ap (λ (fails : List ℕ). pass_from ps f g (slice (s.at + 1) (length ps) fronted) (slice (s.state.base + 1) (s.at + 1) fronted) fails (take (length ps) s.taken.times) (s.tries + m))
         fails_same))
 
     -- and goes on
-    pub skipped_going : (turned_away s.state s.at (next_of s) g).again ≡ false
-        → Going (packets_held t) f g (stand_of (turned_away s.state s.at (next_of s) g).state s.times s.by s.count (s.at + 1) (s.tries + m))
+    pub skipped_going : g ≤ raised s.state.fails (next_of s)
+        → Going (packets_held t) f g (stand_of (turned_away s.state s.at (next_of s) g) s.taken (s.at + 1) (s.tries + m))
     skipped_going h =
         rw (turned_skipped h)
         record {

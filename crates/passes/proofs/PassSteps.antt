@@ -39,19 +39,19 @@ module _ (ps : List Packet) (f g p : ℕ) (rest kept fails table : List ℕ) (tr
 -- ---- placing's numbers
 
 -- a taken time: one of the packet's times, with as many tried as there are up to it
-pub record Taken (f : ℕ) (pk : Packet) (i t m : ℕ) : Type 0 where
+pub record TimeTaken (f : ℕ) (pk : Packet) (i t m : ℕ) : Type 0 where
   pub one_of : i < slots_of f pk
   pub time : t ≡ time_of f pk i
   pub tried : m ≡ i + 1
 
 -- what a taken time is
 pub placing_at : (ps : List Packet) (f : ℕ) (table : List ℕ) (p t m : ℕ) → placing_of ps f table p ≡ At t m
-    → Taken f (packet_at ps p) (taken_of ps f table p) t m
+    → TimeTaken f (packet_at ps p) (taken_of ps f table p) t m
 unfolding placing_of placed_by
 placing_at ps f table p t m e = go (ltb (taken_of ps f table p) (slots_of f (packet_at ps p))) refl e
   where
     go : (b : Bool) → ltb (taken_of ps f table p) (slots_of f (packet_at ps p)) ≡ b → placing_of ps f table p ≡ At t m
-        → Taken f (packet_at ps p) (taken_of ps f table p) t m
+        → TimeTaken f (packet_at ps p) (taken_of ps f table p) t m
     go true h e =
         let s : placing_of ps f table p ≡ At (time_of f (packet_at ps p) (taken_of ps f table p)) (taken_of ps f table p + 1) = rw (h, placed_by) refl in
         record { one_of = ltb-true _ _ h; time = cc; tried = cc }

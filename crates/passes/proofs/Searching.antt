@@ -11,13 +11,14 @@ use Rattle.basics.proofs.Each.{Each}
 use Rattle.basics.proofs.Lists.{fill_at}
 use Rattle.packet.specs.Packet.{Packet}
 use Rattle.order.specs.Order.{occurs}
+use Rattle.std.specs.Prelude.{None, Some}
 use Rattle.placing.specs.Traffic.{packets_held}
-use Rattle.placing.specs.declared.traffic.Traffic.{Traffic}
+use Rattle.load.specs.declared.traffic.Traffic.{Traffic}
 use Rattle.placing.proofs.Bridging.{packets_count, held_in}
 use Rattle.settling.specs.declared.taking.State.{State}
 use Rattle.passes.specs.Pass.{Pass, pass_over}
 use Rattle.passes.specs.Passes.{passes_from, ceiling, search_from}
-use Rattle.passes.specs.Stand.{list_of, fails_of, passed_of, Ready, Carried, Ran}
+use Rattle.passes.specs.Stand.{list_of, fails_of, TableOf, Ready, Carried, Ran}
 use Rattle.passes.specs.Search.{found_of, Searches, Searched}
 use Rattle.passes.specs.declared.walk.Passed.{Passed}
 use Rattle.passes.proofs.Running.{take_replicate}
@@ -36,6 +37,11 @@ list_in ps g s few c =
     let l : s.base + i < length ps = omega (arith, length-slice s.base (length ps) s.order (omega (arith, c.order_long))) in
     subst (λ (q : ℕ). q < length ps) (sym (get_or-drop s.base (take (length ps) s.order) i 0 ∙ get_or-take (length ps) s.order (s.base + i) 0 l))
     (c.numbers (s.base + i) l))
+
+-- there are as many fail counts as packets
+fails_length : {ps : List Packet} {g : ℕ} (s : State) → length ps ≤ 1024 → Carried ps g s → length (fails_of (length ps) s) ≡ length ps
+unfolding fails_of
+fails_length {ps} s few c = length-take-le (length ps) s.fails (omega (arith, c.fails_long))
 
 -- where the search stands before a pass: so many passes were begun, each used up one, and what is left to do gives the result
 pub record Searching (t : Traffic) (f g : ℕ) (list : List ℕ) (s : State) (passes tries : ℕ) : Type 0 where
@@ -92,28 +98,29 @@ module _ {t : Traffic} {f g : ℕ} {list : List ℕ} {s : State} {passes tries :
   unfolding ceiling
   left = omega (arith, passes_few)
 
-  module _ {r : Passed} (ran : Ran (packets_held t) f g s r) where
+  module _ {after : State} {r : Passed} (ran : Ran (packets_held t) f g s after r) where
     -- the pass as the definition takes it
     abbrev over : Pass
     over = pass_over (packets_held t) f g (list_of (length (packets_held t)) s) (fails_of (length (packets_held t)) s)
 
     -- one pass was broken off
-    pub searching_on : r.whole ≡ false → Searching t f g list r.state (passes + 1) (tries + r.tries)
-    unfolding passed_of fails_of
+    pub searching_on : r.table ≡ None → Searching t f g list after (passes + 1) (tries + r.tries)
+    unfolding TableOf
     searching_on w =
         let ps = packets_held t in
         let few = (held_in t search.ready.few).few in
-        let broken : over.whole ≡ false = ap (λ (p : Pass). p.whole) (sym ran.same) ∙ w in
-        let front : length (take (length ps) s.fails) ≡ length ps = length-take-le (length ps) s.fails (omega (arith, search.carried.fails_long, few)) in
+        let broken : over.whole ≡ false = rw w at ran.table in
+        let front : length (fails_of (length ps) s) ≡ length ps = fails_length s few search.carried in
         record {
           ready = search.ready;
           carried = ran.carried;
           used =
-              ap (λ (p : Pass). spent (length ps) g p.fails) ran.same
+              ap (spent (length ps) g) ran.fails
               ∙ over_spent ps f g (list_of (length ps) s) (fails_of (length ps) s) (list_in ps g s few search.carried) front broken
               ∙ ap (λ (k : ℕ). k + 1) search.used;
           same =
-              ap (λ (p : Pass). passes_from (ceiling (length ps) g - (passes + 1)) ps f g p.list p.fails (passes + 1) (tries + p.tries)) ran.same
+              ap₂ (λ (l c : List ℕ). passes_from (ceiling (length ps) g - (passes + 1)) ps f g l c (passes + 1) (tries + r.tries)) ran.list ran.fails
+              ∙ ap (λ (k : ℕ). passes_from (ceiling (length ps) g - (passes + 1)) ps f g over.list over.fails (passes + 1) (tries + k)) ran.tries
               ∙ sym (passes_on (ceiling (length ps) g - (passes + 1)) ps f g (list_of (length ps) s) (fails_of (length ps) s) passes tries broken)
               ∙ ap (λ (k : ℕ). passes_from k ps f g (list_of (length ps) s) (fails_of (length ps) s) passes tries) (sym left)
               ∙ search.same;
@@ -121,17 +128,17 @@ module _ {t : Traffic} {f g : ℕ} {list : List ℕ} {s : State} {passes tries :
         }
 
     -- one pass ran to the end
-    pub searching_end : r.whole ≡ true → Searched t f g list record { times = r.times; passes = passes + 1; tries = tries + r.tries }
-    unfolding passed_of found_of
-    searching_end w =
+    pub searching_end : {times : List ℕ} → r.table ≡ Some times → Searched t f g list record { times = times; passes = passes + 1; tries = tries + r.tries }
+    unfolding TableOf found_of
+    searching_end {times} w =
         let ps = packets_held t in
-        let whole : over.whole ≡ true = ap (λ (p : Pass). p.whole) (sym ran.same) ∙ w in
+        let ends : (over.whole ≡ true) × (take (length (packets_held t)) times ≡ over.table) × (length times ≡ 1024) = rw w at ran.table in
         record {
           same =
-              ap (λ (n : ℕ). record { table = take n r.times; passes = passes + 1; tries = tries + r.tries }) (sym (packets_count t))
-              ∙ ap (λ (p : Pass). record { table = p.table; passes = passes + 1; tries = tries + p.tries }) ran.same
-              ∙ sym (passes_end (ceiling (length ps) g - (passes + 1)) ps f g (list_of (length ps) s) (fails_of (length ps) s) passes tries whole)
+              ap (λ (n : ℕ). record { table = take n times; passes = passes + 1; tries = tries + r.tries }) (sym (packets_count t))
+              ∙ ap₂ (λ (table : List ℕ) (k : ℕ). record { table = table; passes = passes + 1; tries = tries + k }) ends.1 ran.tries
+              ∙ sym (passes_end (ceiling (length ps) g - (passes + 1)) ps f g (list_of (length ps) s) (fails_of (length ps) s) passes tries ends.0)
               ∙ ap (λ (k : ℕ). passes_from k ps f g (list_of (length ps) s) (fails_of (length ps) s) passes tries) (sym left)
               ∙ search.same;
-          times_long = ran.times_long;
+          times_long = ends.2;
         }

@@ -6,7 +6,7 @@ use mathlib.Core.List.{List, ◌∷◌}
 use Prim.Native.Nat.{ℕ, ◌+◌, ◌*◌, ◌≤◌, ◌<◌}
 use native.Mathlib.Decide.{ℕ_discrete}
 use native.Mathlib.Omega.{arith}
-use lib.ListN.{length, get_or, set, take}
+use lib.ListN.{length, get_or, take}
 use lib.Seq.{slice, get_or-take, length-take-le}
 use lib.Dec.{eqb}
 use borrow.Author.Tests.{ne_eqb, not-false}
@@ -18,9 +18,10 @@ use Rattle.time.specs.Units.{latest_of}
 use Rattle.packet.specs.Packet.{Packet}
 use Rattle.packet.specs.Table.{packet_at, time_at, none, placed}
 use Rattle.order.specs.Order.{occurs}
-use Rattle.order.specs.Lists.{shifted, Room}
+use Rattle.order.specs.Lists.{Room}
 use Rattle.order.proofs.Ordering.{occurs_same}
-use Rattle.kept.specs.Kept.{spot_of}
+use Rattle.kept.specs.Kept.{spot_of, added}
+use Rattle.std.specs.Prelude.{Option}
 use Rattle.kept.proofs.OneMore.{Taking, adds, spot_within, kept_more, listed_more, table_more, placed_same}
 use Rattle.marks.specs.Marks.{Honest}
 use Rattle.gaps.specs.declared.gap.Gap.{Gap}
@@ -28,15 +29,15 @@ use Rattle.gaps.specs.declared.gap.Placed.TheVariants.{At}
 use Rattle.twins.specs.Twins.{Stood}
 use Rattle.placing.specs.Placing.{in_the_way, free, taken_of, placing_of}
 use Rattle.placing.specs.Held.{Held, Placeable, place_in}
-use Rattle.placing.specs.Traffic.{load_in, packets_held}
-use Rattle.placing.specs.declared.traffic.Traffic.{Traffic}
+use Rattle.placing.specs.Traffic.{packets_held}
+use Rattle.load.specs.declared.traffic.Traffic.{Traffic}
 use Rattle.placing.proofs.Bridging.{ways_same, placing_same, place_spot, packets_count, held_in}
 use Rattle.settling.specs.Settling.{raised}
 use Rattle.passes.specs.Pass.{pass_from}
 use Rattle.passes.specs.Stand.{fails_of, list_of, Stand, stand_of, outcome, Ready, Tight, Going}
 use Rattle.passes.proofs.Tightening.{tight_other, tight_new}
 use Rattle.passes.proofs.Parts.{rest_next, taken_more, list_occurs}
-use Rattle.passes.proofs.PassSteps.{pass_placed, Taken, placing_at, slots_few, time_latest}
+use Rattle.passes.proofs.PassSteps.{pass_placed, TimeTaken, placing_at, slots_few, time_latest}
 
 -- the next packet
 abbrev pub next_of : Stand → ℕ
@@ -47,7 +48,7 @@ module _ {t : Traffic} {f g : ℕ} (ready : Ready t f g) {s : Stand} (going : Go
   abbrev ps : List Packet
   ps = packets_held t
 
-  held : Held (packets_held t) (load_in t) t.release t.due
+  held : Held (packets_held t) t
   held = held_in t ready.few
 
   pub few : length (packets_held t) ≤ 1024
@@ -64,13 +65,13 @@ module _ {t : Traffic} {f g : ℕ} (ready : Ready t f g) {s : Stand} (going : Go
   next_count = omega (arith, next_in_lem, packets_count t)
 
   -- a placed packet stands where there was no gap before
-  stands : (q : ℕ) → q < length (packets_held t) → (get_or s.times q 0 ≡ none → ⊥) → Stood (load_in t) t.release s.by s.count s.times f q
+  stands : (q : ℕ) → q < length (packets_held t) → (get_or s.taken.times q 0 ≡ none → ⊥) → Stood t s.taken f q
   unfolding placed time_at free
   stands q h timed =
-      let place : get_or (take (length ps) s.times) q 0 ≡ get_or s.times q 0 = get_or-take (length ps) s.times q 0 h in
-      let known : get_or s.times q none ≡ get_or s.times q 0 = read_any s.times q none 0 (omega (arith, going.kept.times_long, few)) in
-      let is_placed : placed (take (length ps) s.times) q ≡ true =
-      ap (λ (k : ℕ). not (eqb k none)) (get_or-take (length ps) s.times q none h ∙ known) ∙ ap not (ne_eqb _ none timed) in
+      let place : get_or (take (length ps) s.taken.times) q 0 ≡ get_or s.taken.times q 0 = get_or-take (length ps) s.taken.times q 0 h in
+      let known : get_or s.taken.times q none ≡ get_or s.taken.times q 0 = read_any s.taken.times q none 0 (omega (arith, going.kept.times_long, few)) in
+      let is_placed : placed (take (length ps) s.taken.times) q ≡ true =
+      ap (λ (k : ℕ). not (eqb k none)) (get_or-take (length ps) s.taken.times q none h ∙ known) ∙ ap not (ne_eqb _ none timed) in
       let w = going.listed.all q h is_placed in
       let tight = going.tight q h is_placed in
       record {
@@ -81,13 +82,12 @@ module _ {t : Traffic} {f g : ℕ} (ready : Ready t f g) {s : Stand} (going : Go
         grid = sym place ∙ tight.grid ∙ ap (λ (r : ℕ). r + tight.i * f) (held.releases q h);
         tight = λ m l.
             sym (ways_same held going.listed h (get_or t.release q 0 + m * f))
-            ∙ ap (λ (r : ℕ). some (in_the_way ps (take (length ps) s.times) q (r + m * f)) (length ps)) (sym (held.releases q h))
+            ∙ ap (λ (r : ℕ). some (in_the_way ps (take (length ps) s.taken.times) q (r + m * f)) (length ps)) (sym (held.releases q h))
             ∙ not-false _ (tight.taken m l);
       }
 
   -- what placing it asks
-  pub place_asks : {marks : List ℕ} → Honest t.lens t.links marks
-      → Placeable (load_in t) t.release t.due marks s.by s.count s.times t.longest f (next_of s)
+  pub place_asks : {marks : List (Option ℕ)} → Honest t.paths marks → Placeable t s.taken marks f (next_of s)
   place_asks honest = record {
     loaded = ready.loaded;
     honest = honest;
@@ -126,14 +126,14 @@ module _ {t : Traffic} {f g : ℕ} (ready : Ready t f g) {s : Stand} (going : Go
       ))
 
   -- and it is not placed
-  not_placed : placed (take (length ps) s.times) (next_of s) ≡ false
+  not_placed : placed (take (length ps) s.taken.times) (next_of s) ≡ false
   not_placed = not_passing _ (λ e.
       let none_left : occurs (next_of s) (next_of s ∷ slice (s.at + 1) (length ps) s.state.order) ≡ 0 =
       ap (occurs (next_of s)) (sym (rest_next s.state.order s.state.base s.at (length ps) going.low more long)) ∙ going.ahead (next_of s) e in
       omega (arith, occurs_same (next_of s) (slice (s.at + 1) (length ps) s.state.order)))
 
   -- what is placed does not stand behind it
-  pub behind : (q : ℕ) → placed (take (length (packets_held t)) s.times) q ≡ true → occurs q (slice (s.at + 1) (length (packets_held t)) s.state.order) ≡ 0
+  pub behind : (q : ℕ) → placed (take (length (packets_held t)) s.taken.times) q ≡ true → occurs q (slice (s.at + 1) (length (packets_held t)) s.state.order) ≡ 0
   unfolding occurs
   behind q e =
       let none_left : occurs q (next_of s ∷ slice (s.at + 1) (length ps) s.state.order) ≡ 0 =
@@ -148,10 +148,10 @@ module _ {t : Traffic} {f g : ℕ} (ready : Ready t f g) {s : Stand} (going : Go
   -- the definition at the next packet
   pub here : outcome (packets_held t) f g s
       ≡ pass_from (packets_held t) f g (next_of s ∷ slice (s.at + 1) (length (packets_held t)) s.state.order) (slice s.state.base s.at s.state.order)
-      (fails_of (length (packets_held t)) s.state) (take (length (packets_held t)) s.times) s.tries
+      (fails_of (length (packets_held t)) s.state) (take (length (packets_held t)) s.taken.times) s.tries
   unfolding outcome
   here =
-      ap (λ (rest : List ℕ). pass_from ps f g rest (slice s.state.base s.at s.state.order) (fails_of (length ps) s.state) (take (length ps) s.times) s.tries)
+      ap (λ (rest : List ℕ). pass_from ps f g rest (slice s.state.base s.at s.state.order) (fails_of (length ps) s.state) (take (length ps) s.taken.times) s.tries)
       (rest_next s.state.order s.state.base s.at (length ps) going.low more long)
 
   -- the latest start is in time
@@ -166,19 +166,19 @@ module _ {t : Traffic} {f g : ℕ} (ready : Ready t f g) {s : Stand} (going : Go
 
   -- ---- where it goes
 
-  module _ {r : Gap} (goes : r ≡ place_in (load_in t) t.release t.due s.by s.count s.times f (next_of s)) where
+  module _ {r : Gap} (goes : r ≡ place_in t s.taken f (next_of s)) where
     -- it goes where the definition says
-    pub placing : r.placed ≡ placing_of (packets_held t) f (take (length (packets_held t)) s.times) (next_of s)
+    pub placing : r.placed ≡ placing_of (packets_held t) f (take (length (packets_held t)) s.taken.times) (next_of s)
     placing = ap (λ (k : Gap). k.placed) goes ∙ placing_same held going.listed next_in_lem f
 
     -- ---- the packet is placed
 
     module _ {time m : ℕ} (at : r.placed ≡ At time m) where
-      e : placing_of ps f (take (length ps) s.times) (next_of s) ≡ At time m
+      e : placing_of ps f (take (length ps) s.taken.times) (next_of s) ≡ At time m
       e = sym placing ∙ at
 
-      taken : Taken f (packet_at ps (next_of s)) (taken_of ps f (take (length ps) s.times) (next_of s)) time m
-      taken = placing_at ps f (take (length ps) s.times) (next_of s) time m e
+      taken : TimeTaken f (packet_at ps (next_of s)) (taken_of ps f (take (length ps) s.taken.times) (next_of s)) time m
+      taken = placing_at ps f (take (length ps) s.taken.times) (next_of s) time m e
 
       time_soon : time ≤ most
       time_soon = omega (arith, taken.time, time_latest f (packet_at ps (next_of s)) _ taken.one_of release_latest, latest_small)
@@ -187,7 +187,7 @@ module _ {t : Traffic} {f g : ℕ} (ready : Ready t f g) {s : Stand} (going : Go
       tries_few = omega (arith, taken.tried, taken.one_of, slots_few f (packet_at ps (next_of s)), latest_small)
 
       -- it takes its time
-      takes : Taking ps s.by s.count s.times time (next_of s)
+      takes : Taking ps s.taken time (next_of s)
       takes = record {
         kept = going.kept;
         listed = going.listed;
@@ -199,17 +199,17 @@ module _ {t : Traffic} {f g : ℕ} (ready : Ready t f g) {s : Stand} (going : Go
       }
 
       -- what its settling asks
-      pub settles : Room s.by r.spot s.count × (next_of s < 1024)
+      pub settles : Room s.taken.by r.spot s.taken.count × (next_of s < 1024)
       settles = (record { long = going.kept.by_long; order = omega (arith, place_spot held going.listed next_in_lem f goes at, spot_within (adds takes)); within = omega (arith, going.few, few) }, omega (arith, next_in_lem, few))
 
       -- where the pass stands then
       abbrev stood : Stand
       stood =
-          stand_of s.state (set s.times (next_of s) time) (shifted s.by (spot_of s.by s.count s.times time) s.count (next_of s)) (s.count + 1) (s.at + 1) (s.tries + m)
+          stand_of s.state (added s.taken (spot_of s.taken time) (next_of s) time) (s.at + 1) (s.tries + m)
 
       -- it leaves the same
       pub placed_outcome : outcome (packets_held t) f g
-          (stand_of s.state (set s.times (next_of s) time) (shifted s.by (spot_of s.by s.count s.times time) s.count (next_of s)) (s.count + 1) (s.at + 1) (s.tries + m))
+          (stand_of s.state (added s.taken (spot_of s.taken time) (next_of s) time) (s.at + 1) (s.tries + m))
           ≡ outcome (packets_held t) f g s
       unfolding outcome
       placed_outcome =
@@ -220,12 +220,12 @@ module _ {t : Traffic} {f g : ℕ} (ready : Ready t f g) {s : Stand} (going : Go
           (sym (table_more takes)))
 
       -- its place is in the table
-      front : next_of s < length (take (length ps) s.times)
-      front = omega (arith, next_in_lem, length-take-le (length ps) s.times (omega (arith, going.kept.times_long, few)))
+      front : next_of s < length (take (length ps) s.taken.times)
+      front = omega (arith, next_in_lem, length-take-le (length ps) s.taken.times (omega (arith, going.kept.times_long, few)))
 
       -- and goes on
       pub placed_going : Going (packets_held t) f g
-          (stand_of s.state (set s.times (next_of s) time) (shifted s.by (spot_of s.by s.count s.times time) s.count (next_of s)) (s.count + 1) (s.at + 1) (s.tries + m))
+          (stand_of s.state (added s.taken (spot_of s.taken time) (next_of s) time) (s.at + 1) (s.tries + m))
       placed_going = record {
         carried = going.carried;
         low = omega (arith, going.low);
@@ -241,8 +241,8 @@ module _ {t : Traffic} {f g : ℕ} (ready : Ready t f g) {s : Stand} (going : Go
         tight = λ q h l.
             subst (λ (table : List ℕ). Tight (packets_held t) f table q) (sym (table_more takes))
             (elim (ℕ_discrete q (next_of s)) [
-              | yes a ↦ rw a (tight_new ps f (take (length ps) s.times) (next_of s) time front not_placed m e)
-              | no a ↦ tight_other ps f (take (length ps) s.times) (next_of s) time front not_placed q a (going.tight q h (sym (placed_same takes q a) ∙ l))
+              | yes a ↦ rw a (tight_new ps f (take (length ps) s.taken.times) (next_of s) time front not_placed m e)
+              | no a ↦ tight_other ps f (take (length ps) s.taken.times) (next_of s) time front not_placed q a (going.tight q h (sym (placed_same takes q a) ∙ l))
             ]);
         bounded = omega (arith, going.bounded, tries_few);
       }

@@ -2,7 +2,7 @@
 use Rattle.std.specs.Prelude.{◌≡◌, List, ℕ, ◌≤◌, ◌<◌, length, get_or, take}
 use Rattle.order.specs.Order.{occurs}
 use Rattle.placing.specs.Traffic.{packets_held}
-use Rattle.placing.specs.declared.traffic.Traffic.{Traffic}
+use Rattle.load.specs.declared.traffic.Traffic.{Traffic}
 use Rattle.passes.specs.Passes.{Found, search_from}
 use Rattle.passes.specs.Stand.{Ready}
 use Rattle.passes.specs.declared.repeat.Outcome.{Outcome}

@@ -1,15 +1,16 @@
 -- A pass as the code takes it, and what holds of it.
-use Rattle.std.specs.Prelude.{◌≡◌, true, false, List, ℕ, ◌+◌, ◌*◌, ◌≤◌, ◌<◌, length, get_or, take}
+use Rattle.std.specs.Prelude.{◌≡◌, true, false, List, Option, None, Some, ℕ, ◌+◌, ◌*◌, ◌≤◌, ◌<◌, length, get_or, take}
 use Rattle.std.proofs.Math.Seq.{slice}
 use Rattle.hyperperiod.specs.Hyper.{most}
 use Rattle.packet.specs.Packet.{Packet}
 use Rattle.packet.specs.Table.{packet_at, time_at, placed}
 use Rattle.order.specs.Order.{occurs}
-use Rattle.load.specs.Load.{flow_at, span_of, Loaded}
+use Rattle.load.specs.Load.{flow_at, span_of, path_for, Loaded}
 use Rattle.kept.specs.Kept.{Kept, Roster}
+use Rattle.kept.specs.declared.finding.Taken.{Taken}
 use Rattle.placing.specs.Placing.{free}
-use Rattle.placing.specs.Traffic.{load_in, packets_held}
-use Rattle.placing.specs.declared.traffic.Traffic.{Traffic}
+use Rattle.placing.specs.Traffic.{packets_held}
+use Rattle.load.specs.declared.traffic.Traffic.{Traffic}
 use Rattle.settling.specs.declared.taking.State.{State}
 use Rattle.passes.specs.Pass.{Pass, pass_from, pass_over}
 use Rattle.passes.specs.declared.walk.Passed.{Passed}
@@ -22,37 +23,35 @@ list_of n s = slice s.base n s.order
 unfoldable pub fails_of : ℕ → State → List ℕ
 fails_of n s = take n s.fails
 
--- where a pass stands: the packets of the list before at are taken; count of them are placed, and `by` has them in order of start
+-- where a pass stands: the packets of the list before at are taken, and some of them are placed
 pub record Stand : Type 0 where
   pub state : State
-  pub times : List ℕ
-  pub by : List ℕ
-  pub count : ℕ
+  pub taken : Taken
   pub at : ℕ
   pub tries : ℕ
 
-abbrev pub stand_of : State → List ℕ → List ℕ → ℕ → ℕ → ℕ → Stand
-stand_of state times by count at tries = record { state = state; times = times; by = by; count = count; at = at; tries = tries }
+abbrev pub stand_of : State → Taken → ℕ → ℕ → Stand
+stand_of state taken at tries = record { state = state; taken = taken; at = at; tries = tries }
 
 -- what the pass leaves from here on
 unfoldable pub outcome : List Packet → ℕ → ℕ → Stand → Pass
 outcome ps f g s =
     pass_from ps f g (slice s.at (length ps) s.state.order) (slice s.state.base s.at s.state.order) (fails_of (length ps) s.state)
-    (take (length ps) s.times) s.tries
+    (take (length ps) s.taken.times) s.tries
 
 -- the packets are in time, and the settings are in their ranges
 pub record Ready (t : Traffic) (f g : ℕ) : Type 0 where
   pub few : t.count ≤ 1024
-  pub loaded : Loaded (load_in t)
+  pub loaded : Loaded t
   pub some_step : 0 < f
   pub small_step : f ≤ 65536
   pub low : 0 < g
   pub high : g ≤ 16
-  pub lasting : (p : ℕ) → p < t.count → 0 < span_of (load_in t) (flow_at (load_in t) p)
-  pub some_links : (p : ℕ) → p < t.count → 0 < get_or t.lens (flow_at (load_in t) p) 0
-  pub fits : (p : ℕ) → p < t.count → span_of (load_in t) (flow_at (load_in t) p) ≤ get_or t.due (flow_at (load_in t) p) 0
-  pub ends : (p : ℕ) → p < t.count → get_or t.release p 0 + get_or t.due (flow_at (load_in t) p) 0 ≤ most
-  pub longest_of : (h : ℕ) → h < 64 → span_of (load_in t) h ≤ t.longest
+  pub lasting : (p : ℕ) → p < t.count → 0 < span_of t (flow_at t p)
+  pub some_links : (p : ℕ) → p < t.count → 0 < length (path_for t (flow_at t p))
+  pub fits : (p : ℕ) → p < t.count → span_of t (flow_at t p) ≤ get_or t.due (flow_at t p) 0
+  pub ends : (p : ℕ) → p < t.count → get_or t.release p 0 + get_or t.due (flow_at t p) 0 ≤ most
+  pub longest_of : (h : ℕ) → h < 64 → span_of t h ≤ t.longest
 
 -- what is carried over the passes: the list holds packets, each at most once, with fail counts below G
 pub record Carried (ps : List Packet) (g : ℕ) (s : State) : Type 0 where
@@ -74,22 +73,17 @@ pub record Going (ps : List Packet) (f g : ℕ) (s : Stand) : Type 0 where
   pub carried : Carried ps g s.state
   pub low : s.state.base ≤ s.at
   pub high : s.at ≤ length ps
-  pub few : s.count ≤ s.at
-  pub kept : Kept s.by s.count s.times
-  pub listed : Roster ps s.by s.count s.times
-  pub ahead : (q : ℕ) → placed (take (length ps) s.times) q ≡ true → occurs q (slice s.at (length ps) s.state.order) ≡ 0
-  pub tight : (q : ℕ) → q < length ps → placed (take (length ps) s.times) q ≡ true → Tight ps f (take (length ps) s.times) q
+  pub few : s.taken.count ≤ s.at
+  pub kept : Kept s.taken
+  pub listed : Roster ps s.taken
+  pub ahead : (q : ℕ) → placed (take (length ps) s.taken.times) q ≡ true → occurs q (slice s.at (length ps) s.state.order) ≡ 0
+  pub tight : (q : ℕ) → q < length ps → placed (take (length ps) s.taken.times) q ≡ true → Tight ps f (take (length ps) s.taken.times) q
   pub bounded : s.tries ≤ s.at * 33554432
 
--- what a pass leaves, as the definition has it
-unfoldable pub passed_of : ℕ → Passed → Pass
-passed_of n r = record {
-  whole = r.whole;
-  list = list_of n r.state;
-  fails = fails_of n r.state;
-  table = take n r.times;
-  tries = r.tries;
-}
+-- the table that a pass leaves, as the definition has it: there is one where the pass ran to the end of its list
+unfoldable pub TableOf : ℕ → Pass → Option (List ℕ) → Type 0
+TableOf n pass None = pass.whole ≡ false
+TableOf n pass (Some times) = (pass.whole ≡ true) × (take n times ≡ pass.table) × (length times ≡ 1024)
 
 -- what a pass asks: packets in time, and what is carried over
 pub record Runs (t : Traffic) (f g : ℕ) (s : State) : Type 0 where
@@ -97,8 +91,10 @@ pub record Runs (t : Traffic) (f g : ℕ) (s : State) : Type 0 where
   pub carried : Carried (packets_held t) g s
 
 -- what a pass leaves is what the definition says, and all that is carried over still holds
-pub record Ran (ps : List Packet) (f g : ℕ) (s : State) (r : Passed) : Type 0 where
-  pub same : passed_of (length ps) r ≡ pass_over ps f g (list_of (length ps) s) (fails_of (length ps) s)
-  pub carried : Carried ps g r.state
-  pub times_long : length r.times ≡ 1024
+pub record Ran (ps : List Packet) (f g : ℕ) (s after : State) (r : Passed) : Type 0 where
+  pub list : list_of (length ps) after ≡ (pass_over ps f g (list_of (length ps) s) (fails_of (length ps) s)).list
+  pub fails : fails_of (length ps) after ≡ (pass_over ps f g (list_of (length ps) s) (fails_of (length ps) s)).fails
+  pub tries : r.tries ≡ (pass_over ps f g (list_of (length ps) s) (fails_of (length ps) s)).tries
+  pub table : TableOf (length ps) (pass_over ps f g (list_of (length ps) s) (fails_of (length ps) s)) r.table
+  pub carried : Carried ps g after
   pub bounded : r.tries ≤ 1024 * 33554432

@@ -2,7 +2,7 @@
 ghost use Rattle.passes.specs.Search.{Searches, Searched};
 
 use crate::walk::pass;
-use placing::Traffic;
+use load::Traffic;
 use settling::State;
 
 // What the passes leave: the table, the passes begun, and the times tried.
@@ -15,9 +15,9 @@ pub struct Outcome {
 
 // The passes: one that is broken off is followed by a new one, one that runs to the end is the result. The fail counts are never set
 // back.
-pub fn rounds(list: [u16; 1024], traffic: Traffic, pruning: u32, threshold: u32) -> Outcome
-    requires { Searches traffic pruning threshold list }
-    ensures { Searched traffic pruning threshold list result }
+pub fn rounds(list: [u16; 1024], traffic: &Traffic, pruning: u32, threshold: u32) -> Outcome
+    requires { Searches traffic.now pruning threshold list }
+    ensures { Searched traffic.now pruning threshold list result }
 {
     let mut state = State {
         order: list,
@@ -27,18 +27,15 @@ pub fn rounds(list: [u16; 1024], traffic: Traffic, pruning: u32, threshold: u32)
     let mut passes: u32 = 0;
     let mut tries: u64 = 0;
     loop {
-        let r = pass(state, traffic, pruning, threshold);
+        let passed = pass(&mut state, traffic, pruning, threshold);
         passes += 1;
-        tries += r.tries;
-        if r.whole {
-            let times = r.times;
+        tries += passed.tries;
+        if let Some(times) = passed.table {
             return Outcome {
                 times,
                 passes,
                 tries,
             };
         }
-        let next = r.state;
-        state = next;
     }
 }

@@ -1,26 +1,47 @@
 -- What placing a packet asks is what its resuming and its sweep ask, from a packet before which all are over, once the links of its path
 -- are marked.
-use mathlib.Core.Path.{◌≡◌, sym, ap, subst}
+use mathlib.Core.Path.{◌≡◌, sym, ◌∙◌, ap, subst}
 use mathlib.Core.List.{List}
-use Prim.Native.Nat.{ℕ, ◌<◌}
+use Prim.Native.Nat.{ℕ, ◌+◌, ◌-◌, ◌≤◌, ◌<◌}
 use native.Mathlib.Omega.{arith}
-use lib.ListN.{get_or}
-use Rattle.load.specs.Load.{Load, flow_at}
-use Rattle.kept.specs.Kept.{start_of}
+use lib.ListN.{length, get_or}
+use Rattle.load.specs.Load.{flow_at}
+use Rattle.load.specs.declared.traffic.Traffic.{Traffic}
+use Rattle.kept.specs.Kept.{start_of, spot_of}
+use Rattle.kept.specs.declared.finding.Taken.{Taken}
+use Rattle.std.specs.Prelude.{Option}
+use Rattle.order.proofs.Halving.{after_within, after_below}
 use Rattle.marks.specs.Marks.{stamped, Marked}
 use Rattle.marks.proofs.Marking.{marked_stamped}
 use Rattle.gaps.specs.Gaps.{flow_of, Sweep, Resumes}
 use Rattle.twins.specs.Twins.{resume_at, Resume}
 use Rattle.twins.proofs.Twinning.{resumes}
-use Rattle.placing.specs.Held.{latest_at, Placeable, Over}
+use Rattle.placing.specs.Held.{latest_at, stamped_for, Placeable, Over}
 
-module _ {load : Load} {release due marks by : List ℕ} {count : ℕ} {times : List ℕ} {longest f p : ℕ}
-    (asks : Placeable load release due marks by count times longest f p) where
+-- a time less the longest occupancy, where it is not below 0
+pub earlier : {time longest early : ℕ} → (longest ≤ time) × (early ≡ time - longest) → longest + early ≡ time
+earlier e = omega (arith, e.0, e.1)
+
+-- before the first that starts after it all are over
+pub early_over : (taken : Taken) (early : ℕ) {time longest at : ℕ} → longest + early ≡ time → at ≡ spot_of taken early → Over taken time longest at
+unfolding spot_of
+early_over taken early {time} {longest} {at} e here = record {
+  within = after_within (start_of taken) taken.count early at here;
+  over = λ j h. omega (arith, after_below (start_of taken) taken.count early at here j h);
+}
+
+-- the links of a path that was lent are marked
+pub stamps : (g : ℕ) (marks : List (Option ℕ)) {path own_path : List ℕ} {marked : List (Option ℕ)} → path ≡ own_path → marked ≡ stamped path g (length path) marks
+    → marked ≡ stamped own_path g (length own_path) marks
+stamps g marks e f = f ∙ ap (λ (p : List ℕ). stamped p g (length p) marks) e
+
+module _ {traffic : Traffic} {taken : Taken} {marks : List (Option ℕ)} {f p : ℕ}
+    (asks : Placeable traffic taken marks f p) where
   -- its flow is a flow
-  pub own_flow : flow_at load p < 64
+  pub own_flow : flow_at traffic p < 64
   own_flow = asks.loaded.flows p asks.packet
 
-  pub resume_asks : Resume load times f p
+  pub resume_asks : Resume traffic taken f p
   unfolding start_of
   resume_asks = record {
     loaded = asks.loaded;
@@ -29,19 +50,19 @@ module _ {load : Load} {release due marks by : List ℕ} {count : ℕ} {times : 
     small_step = asks.small_step;
     soon = λ q h timed.
         let s = asks.stood q h timed in
-        omega (arith, ap (λ (r : ℕ). get_or times r 0) s.here, asks.kept.soon s.j s.within);
+        omega (arith, ap (λ (r : ℕ). get_or taken.times r 0) s.here, asks.kept.soon s.j s.within);
     lasting = λ q h. asks.lasting q (omega arith);
   }
 
-  pub sweep_asks : (back : ℕ) {from : ℕ} → from ≡ resume_at load release times f p back → {at : ℕ} → Over by count times from longest at
-      → {marked : List ℕ} → marked ≡ stamped load.links (flow_at load p) (get_or load.lens (flow_at load p) 0) marks
-      → Sweep load marked by count times (flow_at load p) f (get_or release p 0) (latest_at load release due p) from at
+  pub sweep_asks : {from : ℕ} → from ≡ resume_at traffic taken f p → {at : ℕ} → Over taken from traffic.longest at
+      → {marked : List (Option ℕ)} → marked ≡ stamped_for traffic p marks
+      → Sweep traffic marked taken (flow_at traffic p) f (get_or traffic.release p 0) (latest_at traffic p) from at
   unfolding latest_at flow_of
-  sweep_asks back {from} here over e = record {
+  sweep_asks {from} here over e = record {
     loaded = asks.loaded;
     marked =
-        subst (λ (m : List ℕ). Marked load.lens load.links m (flow_at load p)) (sym e)
-        (marked_stamped marks asks.loaded.paths (flow_at load p) own_flow asks.honest);
+        subst (λ (m : List (Option ℕ)). Marked traffic.paths m (flow_at traffic p)) (sym e)
+        (marked_stamped marks asks.loaded.paths (flow_at traffic p) own_flow asks.honest);
     kept = asks.kept;
     flow = own_flow;
     lasting = asks.lasting p (omega arith);
@@ -51,9 +72,9 @@ module _ {load : Load} {release due marks by : List ℕ} {count : ℕ} {times : 
     soon = omega (arith, asks.ends);
     within = over.within;
     resumes =
-        subst (Resumes load by count times (flow_at load p) f (get_or release p 0)) (sym here)
-        (resumes resume_asks (omega (arith, asks.ends)) asks.some_links asks.stood back);
+        subst (Resumes traffic taken (flow_at traffic p) f (get_or traffic.release p 0)) (sym here)
+        (resumes resume_asks (omega (arith, asks.ends)) asks.some_links asks.stood);
     over = λ j h.
-        let inside : flow_at load (get_or by j 0) < 64 = asks.loaded.flows _ (asks.kept.listed j (omega (arith, over.within))) in
-        omega (arith, over.over j h, asks.longest_of (flow_at load (get_or by j 0)) inside);
+        let inside : flow_at traffic (get_or taken.by j 0) < 64 = asks.loaded.flows _ (asks.kept.listed j (omega (arith, over.within))) in
+        omega (arith, over.over j h, asks.longest_of (flow_at traffic (get_or taken.by j 0)) inside);
   }

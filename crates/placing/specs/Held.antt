@@ -1,48 +1,54 @@
 -- Packets as the code has them in arrays, and where one of them goes.
-use Rattle.std.specs.Prelude.{◌≡◌, List, ℕ, ◌+◌, ◌-◌, ◌≤◌, ◌<◌, length, get_or}
+use Rattle.std.specs.Prelude.{◌≡◌, List, Option, ℕ, ◌+◌, ◌-◌, ◌≤◌, ◌<◌, length, get_or}
 use Rattle.hyperperiod.specs.Hyper.{most}
 use Rattle.packet.specs.Packet.{Packet}
 use Rattle.packet.specs.Table.{packet_at, none}
-use Rattle.load.specs.Load.{Load, flow_at, span_of, path_for, Loaded}
+use Rattle.load.specs.Load.{flow_at, span_of, path_for, Loaded}
+use Rattle.load.specs.declared.traffic.Traffic.{Traffic}
 use Rattle.kept.specs.Kept.{start_of, Kept}
-use Rattle.marks.specs.Marks.{Honest}
+use Rattle.kept.specs.declared.finding.Taken.{Taken}
+use Rattle.marks.specs.Marks.{stamped, Honest}
 use Rattle.gaps.specs.Gaps.{gap_in}
 use Rattle.gaps.specs.declared.gap.Gap.{Gap}
 use Rattle.twins.specs.Twins.{Stood}
 
 -- the arrays hold a list of packets: the release of each, and D, the occupancy and the path of its flow
-pub record Held (ps : List Packet) (load : Load) (release due : List ℕ) : Type 0 where
+pub record Held (ps : List Packet) (traffic : Traffic) : Type 0 where
   pub few : length ps ≤ 1024
-  pub releases : (p : ℕ) → p < length ps → (packet_at ps p).release ≡ get_or release p 0
-  pub deadlines : (p : ℕ) → p < length ps → (packet_at ps p).deadline ≡ get_or release p 0 + get_or due (flow_at load p) 0
-  pub spans : (p : ℕ) → p < length ps → (packet_at ps p).occupancy ≡ span_of load (flow_at load p)
-  pub paths : (p : ℕ) → p < length ps → (packet_at ps p).path ≡ path_for load (flow_at load p)
+  pub releases : (p : ℕ) → p < length ps → (packet_at ps p).release ≡ get_or traffic.release p 0
+  pub deadlines : (p : ℕ) → p < length ps → (packet_at ps p).deadline ≡ get_or traffic.release p 0 + get_or traffic.due (flow_at traffic p) 0
+  pub spans : (p : ℕ) → p < length ps → (packet_at ps p).occupancy ≡ span_of traffic (flow_at traffic p)
+  pub paths : (p : ℕ) → p < length ps → (packet_at ps p).path ≡ path_for traffic (flow_at traffic p)
 
 -- the latest start of packet p: release + D − occupancy
-unfoldable pub latest_at : Load → List ℕ → List ℕ → ℕ → ℕ
-latest_at load release due p = get_or release p 0 + get_or due (flow_at load p) 0 - span_of load (flow_at load p)
+unfoldable pub latest_at : Traffic → ℕ → ℕ
+latest_at traffic p = get_or traffic.release p 0 + get_or traffic.due (flow_at traffic p) 0 - span_of traffic (flow_at traffic p)
 
 -- where packet p goes among the placed packets
-unfoldable pub place_in : Load → List ℕ → List ℕ → List ℕ → ℕ → List ℕ → ℕ → ℕ → Gap
-place_in load release due by count times f p = gap_in load by count times (flow_at load p) f (get_or release p 0) (latest_at load release due p)
+unfoldable pub place_in : Traffic → Taken → ℕ → ℕ → Gap
+place_in traffic taken f p = gap_in traffic taken (flow_at traffic p) f (get_or traffic.release p 0) (latest_at traffic p)
+
+-- the links of its path marked
+abbrev pub stamped_for : Traffic → ℕ → List (Option ℕ) → List (Option ℕ)
+stamped_for traffic p marks = stamped (path_for traffic (flow_at traffic p)) (flow_at traffic p) (length (path_for traffic (flow_at traffic p))) marks
 
 -- what finding it asks: a packet that fits in its time, settings in their ranges, no occupancy above the longest, and that the packets
 -- placed before it stand where there was no gap before
-pub record Placeable (load : Load) (release due marks by : List ℕ) (count : ℕ) (times : List ℕ) (longest f p : ℕ) : Type 0 where
-  pub loaded : Loaded load
-  pub honest : Honest load.lens load.links marks
-  pub kept : Kept by count times
+pub record Placeable (traffic : Traffic) (taken : Taken) (marks : List (Option ℕ)) (f p : ℕ) : Type 0 where
+  pub loaded : Loaded traffic
+  pub honest : Honest traffic.paths marks
+  pub kept : Kept taken
   pub packet : p < 1024
   pub some_step : 0 < f
   pub small_step : f ≤ 65536
-  pub lasting : (q : ℕ) → q ≤ p → 0 < span_of load (flow_at load q)
-  pub some_links : 0 < get_or load.lens (flow_at load p) 0
-  pub fits : span_of load (flow_at load p) ≤ get_or due (flow_at load p) 0
-  pub ends : get_or release p 0 + get_or due (flow_at load p) 0 ≤ most
-  pub longest_of : (g : ℕ) → g < 64 → span_of load g ≤ longest
-  pub stood : (q : ℕ) → q < p → (get_or times q 0 ≡ none → ⊥) → Stood load release by count times f q
+  pub lasting : (q : ℕ) → q ≤ p → 0 < span_of traffic (flow_at traffic q)
+  pub some_links : 0 < length (path_for traffic (flow_at traffic p))
+  pub fits : span_of traffic (flow_at traffic p) ≤ get_or traffic.due (flow_at traffic p) 0
+  pub ends : get_or traffic.release p 0 + get_or traffic.due (flow_at traffic p) 0 ≤ most
+  pub longest_of : (g : ℕ) → g < 64 → span_of traffic g ≤ traffic.longest
+  pub stood : (q : ℕ) → q < p → (get_or taken.times q 0 ≡ none → ⊥) → Stood traffic taken f q
 
 -- every placed packet before a place is over at a time, even the longest
-pub record Over (by : List ℕ) (count : ℕ) (times : List ℕ) (time longest at : ℕ) : Type 0 where
-  pub within : at ≤ count
-  pub over : (j : ℕ) → j < at → start_of by times j + longest ≤ time
+pub record Over (taken : Taken) (time longest at : ℕ) : Type 0 where
+  pub within : at ≤ taken.count
+  pub over : (j : ℕ) → j < at → start_of taken j + longest ≤ time

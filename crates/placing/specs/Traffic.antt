@@ -2,22 +2,18 @@
 use Rattle.std.specs.Prelude.{List, ℕ, ◌+◌, get_or}
 use Rattle.basics.specs.Lists.{tabulate}
 use Rattle.packet.specs.Packet.{Packet}
-use Rattle.load.specs.Load.{Load, load_of, flow_at, span_of, path_for}
-use Rattle.placing.specs.declared.traffic.Traffic.{Traffic}
-
--- what the packets hold
-abbrev pub load_in : Traffic → Load
-load_in t = load_of t.flow t.occupancy t.lens t.links
+use Rattle.load.specs.Load.{flow_at, span_of, path_for}
+use Rattle.load.specs.declared.traffic.Traffic.{Traffic}
 
 -- packet p, read off the arrays; the search does not know of turns
 unfoldable pub packet_held : Traffic → ℕ → Packet
 packet_held t p = record {
-  flow = flow_at (load_in t) p;
+  flow = flow_at t p;
   turn = 0;
   release = get_or t.release p 0;
-  deadline = get_or t.release p 0 + get_or t.due (flow_at (load_in t) p) 0;
-  occupancy = span_of (load_in t) (flow_at (load_in t) p);
-  path = path_for (load_in t) (flow_at (load_in t) p);
+  deadline = get_or t.release p 0 + get_or t.due (flow_at t p) 0;
+  occupancy = span_of t (flow_at t p);
+  path = path_for t (flow_at t p);
 }
 
 -- all of them

@@ -2,7 +2,5 @@
 #![tactic(auto)]
 
 mod start;
-mod traffic;
 
 pub use start::place;
-pub use traffic::Traffic;

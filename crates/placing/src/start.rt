@@ -1,58 +1,51 @@
 // Placing one packet among those placed.
-ghost use Rattle.std.specs.Prelude.{◌≡◌, get_or};
-ghost use Rattle.load.specs.Load.{load_of};
+ghost use Rattle.std.specs.Prelude.{◌≡◌};
 ghost use Rattle.kept.specs.Kept.{Kept};
-ghost use Rattle.marks.specs.Marks.{stamped};
-ghost use Rattle.placing.specs.Held.{Over, Placeable, place_in};
+ghost use Rattle.placing.specs.Held.{Over, Placeable, place_in, stamped_for};
 
-use gaps::{Gap, gap_for};
-use kept::first_after;
+use gaps::{Gap, Sought, gap_for};
+use kept::Taken;
+use load::Traffic;
 use marks::stamp;
 use mesh::ALL_LINKS;
 use twins::resume;
 
 // Where a sweep may begin: every placed packet before it is over at the time, even the longest.
-fn not_over(by: &[u16; 1024], count: usize, times: &[u32; 1024], time: u32, longest: u32) -> usize
-    requires { Kept by.now count times.now }
-    ensures { Over by.now count times.now time longest result }
+fn not_over(taken: &Taken, time: u32, longest: u32) -> usize
+    requires { Kept taken.now }
+    ensures { Over taken.now time longest result }
 {
-    if time < longest {
-        return 0;
+    match time.checked_sub(longest) {
+        Some(early) => taken.first_after(early),
+        None => 0,
     }
-    first_after(by, count, times, time - longest)
 }
 
 // Where packet p goes, in steps of the pruning factor from its release up to its latest start, and before which of the placed packets it
 // is put in. A gap is sought behind its twin, if it has one. The links of its path are marked.
-pub fn place<'a>(
-    by: &[u16; 1024],
-    count: usize,
-    times: &[u32; 1024],
-    marks: &mut [u8; ALL_LINKS],
-    flow: &'a [u16; 1024],
-    release: &'a [u32; 1024],
-    occupancy: &'a [u32; 64],
-    due: &'a [u32; 64],
-    longest: u32,
-    lens: &'a [usize; 64],
-    links: &'a [u16; 2048],
-    back: &'a [usize; 64],
+pub fn place(
+    traffic: &Traffic,
+    taken: &Taken,
+    marks: &mut [Option<u8>; ALL_LINKS],
     pruning: u32,
     p: usize,
 ) -> Gap
-    requires { Placeable (load_of flow.now occupancy.now lens.now links.now) release.now due.now marks.old by.now count times.now longest pruning p }
-    ensures { (result ≡ place_in (load_of flow.now occupancy.now lens.now links.now) release.now due.now by.now count times.now pruning p) × (marks.new ≡ stamped links.now (get_or flow.now p 0) (get_or lens.now (get_or flow.now p 0) 0) marks.old) }
+    requires { Placeable traffic.now taken.now marks.old pruning p }
+    ensures { (result ≡ place_in traffic.now taken.now pruning p) × (marks.new ≡ stamped_for traffic.now p marks.old) }
 {
-    let own = flow[p] as usize;
-    let begin = release[p];
-    let latest = begin + due[own] - occupancy[own];
-    let from = resume(
-        times, flow, release, occupancy, lens, links, pruning, p, back[own],
-    );
-    let at = not_over(by, count, times, from, longest);
-    stamp(marks, lens, links, own);
-    gap_for(
-        by, count, times, flow, occupancy, marks, lens, links, own, pruning, begin, latest, from,
+    let own = traffic.flow[p] as usize;
+    let begin = traffic.release[p];
+    let latest = begin + traffic.due[own] - traffic.occupancy[own];
+    let from = resume(traffic, taken, pruning, p);
+    let at = not_over(taken, from, traffic.longest);
+    stamp(marks, traffic.path(own), own);
+    let sought = Sought {
+        own,
+        pruning,
+        begin,
+        latest,
+        from,
         at,
-    )
+    };
+    gap_for(traffic, taken, marks, &sought)
 }

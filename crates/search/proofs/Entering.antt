@@ -34,7 +34,7 @@ use Rattle.passes.specs.Search.{found_of}
 use Rattle.passes.specs.declared.repeat.Outcome.{Outcome}
 use Rattle.reports.specs.Reports.{report_of}
 use Rattle.search.specs.Answering.{bad_settings, settings_refusal, bad_table, search_refusal, search_of, found_answer, answer_of, table_after}
-use Rattle.search.specs.Spread.{Modelled}
+use Rattle.search.specs.Modelled.{Modelled}
 use Rattle.basics.proofs.Sums.{count_same}
 use Rattle.search.proofs.Modelling.{fair_modelled}
 

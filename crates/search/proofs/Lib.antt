@@ -1,5 +1,4 @@
 -- The laws of the search.
-pub mod Spreading
 pub mod Slack
 pub mod Grouping
 pub mod Modelling

@@ -1,18 +1,18 @@
 -- A model that is not refused is what the search asks, and what the passes read of it are its packets.
--- In order: what an array reads as behind what it was filled with; what the search asks of the model; the paths in one array; what the
--- passes ask; and that they leave what the search of the model's packets leaves.
+-- In order: what an array reads as behind what it was filled with; what the search asks of the model; what the passes
+-- ask; and that they leave what the search of the model's packets leaves.
 use mathlib.Core.Path.{◌≡◌, refl, sym, ◌∙◌, ap, subst}
 use mathlib.Core.List.{List, [], ◌++◌, map}
-use Prim.Native.Nat.{ℕ, ◌+◌, ◌-◌, ◌*◌, ◌/◌, ◌%◌, ◌≤◌, ◌<◌}
+use Prim.Native.Nat.{ℕ, ◌+◌, ◌-◌, ◌≤◌, ◌<◌}
 use native.Mathlib.Nat.{lt_of_not-le}
 use native.Mathlib.Decide.{dec_le}
 use native.Mathlib.Omega.{arith}
-use lib.ListN.{length, get_or, take, drop, replicate, length-drop, length-map, get_or-replicate, get_or-eq_default}
-use lib.Seq.{length-take-le, get_or-take, get_or-drop, get_or-append-add, ext_get_or}
+use lib.ListN.{length, get_or, take, replicate, length-map, get_or-replicate, get_or-eq_default}
+use lib.Seq.{get_or-append-add}
 use Rattle.basics.specs.Lists.{tabulate, padded}
 use Rattle.basics.proofs.Lists.{tabulate_length, padded_length, padded_at}
 use Rattle.mesh.specs.Link.{all_links}
-use Rattle.routes.specs.Route.{path_of, links_of}
+use Rattle.routes.specs.Route.{path_of}
 use Rattle.routes.specs.declared.paths.Path.{Path}
 use Rattle.routes.proofs.XY.{route_numbers}
 use Rattle.hyperperiod.specs.Hyper.{most}
@@ -28,16 +28,18 @@ use Rattle.model.proofs.Numbering.{packets_length}
 use Rattle.model.proofs.InTime.{InTime, turns_low, fair_timed, packet_in_time, packets_in_time}
 use Rattle.arrays.proofs.Entries.{occupancy_entry, path_entry, flow_entry}
 use Rattle.arrays.proofs.Reading.{read_count, read_at, model_count, packet_in_lem, path_in_lem}
-use Rattle.load.specs.Load.{flow_at, span_of, path_in}
+use Rattle.load.specs.Load.{flow_at, span_of, path_in, Paths}
+use Rattle.load.proofs.Paths.{path_length}
+use Rattle.std.specs.Prelude.{Option}
 use Rattle.placing.specs.Traffic.{packet_held, packets_held}
-use Rattle.placing.specs.declared.traffic.Traffic.{Traffic}
+use Rattle.load.specs.declared.traffic.Traffic.{Traffic}
 use Rattle.placing.proofs.Bridging.{packets_count, packets_at}
 use Rattle.passes.specs.Passes.{search_from}
 use Rattle.passes.specs.Stand.{Ready}
 use Rattle.passes.specs.Search.{found_of, Searched}
 use Rattle.passes.specs.declared.repeat.Outcome.{Outcome}
 use Rattle.passes.proofs.Alike.{Alike, search_alike}
-use Rattle.search.specs.Spread.{Spread, Lens, Modelled}
+use Rattle.search.specs.Modelled.{Modelled}
 use Rattle.search.proofs.Grouping.{fair_keyed, fair_grouped}
 
 -- behind what it was filled with an array holds its filling
@@ -161,90 +163,46 @@ module _ (mesh : Mesh) (numbers : List ℕ) (fair : Fair mesh numbers) where
         high = d;
       }
 
--- ---- the paths in one array
-
-module _ (paths : List Path) (links lens : List ℕ) (spread : Spread paths links) (measured : Lens paths lens) where
-  -- a flow's places hold the links of its path
-  spread_path : (q : ℕ) → q < 64 → length (get_or paths q no_path).links ≡ 32 → (get_or paths q no_path).len ≤ 32
-      → links_of (get_or paths q no_path) ≡ path_in lens links q
-  unfolding links_of path_in
-  spread_path q h whole short =
-      let r : Path = get_or paths q no_path in
-      let n : get_or lens q 0 ≡ (get_or paths q no_path).len = measured.lens_at q h in
-      let front : length (take (get_or paths q no_path).len (get_or paths q no_path).links) ≡ (get_or paths q no_path).len =
-      length-take-le (get_or paths q no_path).len (get_or paths q no_path).links (omega arith) in
-      let part : length (take (get_or paths q no_path).len (drop (q * 32) links)) ≡ (get_or paths q no_path).len =
-      length-take-le (get_or paths q no_path).len (drop (q * 32) links) (omega (arith, length-drop (q * 32) links, spread.long)) in
-      ext_get_or 0 (take (get_or paths q no_path).len (get_or paths q no_path).links) (take (get_or paths q no_path).len (drop (q * 32) links)) (front ∙ sym part)
-      (λ a l.
-      let k : a < (get_or paths q no_path).len = omega arith in
-      get_or-take (get_or paths q no_path).len (get_or paths q no_path).links a 0 k
-      ∙ sym (spread.links_at q a h (omega arith))
-      ∙ sym (get_or-drop (q * 32) links a 0)
-      ∙ sym (get_or-take (get_or paths q no_path).len (drop (q * 32) links) a 0 k))
-      ∙ ap (λ (m : ℕ). take m (drop (q * 32) links)) (sym n)
-
--- what the passes read of a model, with the links in one array
-abbrev pub traffic_of : Model → ℕ → List ℕ → List ℕ → List ℕ → Traffic
-traffic_of model longest lens links back = record {
+-- what the passes read of a model
+abbrev pub traffic_of : Model → ℕ → List (Option ℕ) → Traffic
+traffic_of model longest back = record {
   count = model.packets.count;
   flow = model.packets.flow;
   release = model.packets.release;
   occupancy = model.flows.occupancy;
   due = model.flows.due;
   longest = longest;
-  lens = lens;
-  links = links;
+  paths = model.flows.path;
   back = back;
 }
 
-module _ {model : Model} {f g : ℕ} (m : Modelled model f g) {longest : ℕ} {lens links : List ℕ}
-    (reaches : (q : ℕ) → q < 64 → get_or model.flows.occupancy q 0 ≤ longest) (measured : Lens model.flows.path lens)
-    (spread : Spread model.flows.path links) where
-  -- every place of the links holds the number of a link
-  link_numbers : (i : ℕ) → get_or links i 0 < all_links
-  link_numbers i =
-      elim (dec_le 2048 i) [
-        | yes a ↦ omega (arith, get_or-eq_default links 0 {n = i} (omega (arith, spread.long)))
-        | no a ↦
-            let l : i < 2048 = lt_of_not-le a in
-            let at : i / 32 * 32 + i % 32 ≡ i = omega arith in
-            omega (
-              arith,
-              ap (λ (k : ℕ). get_or links k 0) at,
-              spread.links_at (i / 32) (i % 32) (omega arith) (omega arith),
-              m.numbers (i / 32) (omega arith) (i % 32) (omega arith),
-            )
-      ]
+module _ {model : Model} {f g : ℕ} (m : Modelled model f g) {longest : ℕ} (reaches : (q : ℕ) → q < 64 → get_or model.flows.occupancy q 0 ≤ longest) where
+  -- the paths are good
+  paths_good : Paths model.flows.path
+  paths_good = record { whole = m.whole; short = m.short; numbers = m.numbers }
 
   -- what the passes ask of the packets
-  pub modelled_ready : {back : List ℕ} → Ready (traffic_of model longest lens links back) f g
+  pub modelled_ready : {back : List (Option ℕ)} → Ready (traffic_of model longest back) f g
   unfolding packet_in flow_at span_of
   modelled_ready = record {
     few = m.grouped.few;
-    loaded = record {
-      flows = m.flows;
-      spans = m.spans;
-      paths = record { short = λ q h. omega (arith, measured.lens_at q h, m.short q h); long = spread.long; numbers = link_numbers };
-    };
+    loaded = record { flows = m.flows; spans = m.spans; paths = paths_good };
     some_step = m.some_step;
     small_step = m.small_step;
     low = m.low;
     high = m.high;
     lasting = m.busy;
-    some_links = λ p h.
-        let q = m.flows p (omega (arith, m.grouped.few)) in
-        omega (arith, measured.lens_at (get_or model.packets.flow p 0) q, m.routed p h);
+    some_links = λ p h. omega (arith, path_length paths_good (get_or model.packets.flow p 0) (m.flows p (omega (arith, m.grouped.few))), m.routed p h);
     fits = λ p h. omega (arith, m.fits p h);
     ends = m.ends;
     longest_of = reaches;
   }
 
   -- the packets that the passes read are the model's, but for their turns
-  modelled_alike : (back : List ℕ) → Alike (packets_held (traffic_of model longest lens links back)) (packets_read model)
-  unfolding packet_held packet_in flow_at span_of packet_at
+  modelled_alike : (back : List (Option ℕ)) → Alike (packets_held (traffic_of model longest back)) (packets_read model)
+  unfolding packet_held packet_in flow_at span_of path_in packet_at
   modelled_alike back =
-      let t = traffic_of model longest lens links back in
+      let t = traffic_of model longest back in
       let n = packets_count t in
       let n' = read_count model in
       let same : (X : Type 0) (k : Packet → X) → ((p : ℕ) → p < model.packets.count → k (packet_held t p) ≡ k (packet_in model.flows model.packets p))
@@ -261,13 +219,11 @@ module _ {model : Model} {f g : ℕ} (m : Modelled model f g) {longest : ℕ} {l
         releases = same ℕ (λ r. r.release) (λ p h. refl);
         deadlines = same ℕ (λ r. r.deadline) (λ p h. refl);
         spans = same ℕ (λ r. r.occupancy) (λ p h. refl);
-        paths = same (List ℕ) (λ r. r.path) (λ p h.
-            let q = m.flows p (omega (arith, m.grouped.few)) in
-            sym (spread_path model.flows.path links lens spread measured (get_or model.packets.flow p 0) q (m.whole _ q) (m.short _ q)));
+        paths = same (List ℕ) (λ r. r.path) (λ p h. refl);
       }
 
   -- what the passes leave is what the search of the model's packets leaves, from the same list
-  pub modelled_search : {back list : List ℕ} {r : Outcome} → Searched (traffic_of model longest lens links back) f g list r
+  pub modelled_search : {back : List (Option ℕ)} {list : List ℕ} {r : Outcome} → Searched (traffic_of model longest back) f g list r
       → (first : List ℕ) → take model.packets.count list ≡ first → found_of model.packets.count r ≡ search_from first (packets_read model) f g
   modelled_search {back} {list} s first e =
       s.same ∙ search_alike (modelled_alike back) f g (take model.packets.count list) ∙ ap (λ (l : List ℕ). search_from l (packets_read model) f g) e

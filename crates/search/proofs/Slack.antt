@@ -16,7 +16,7 @@ use Rattle.arrays.specs.Arrays.{packet_in, packets_read}
 use Rattle.arrays.proofs.Reading.{read_count, read_at}
 use Rattle.arrays.specs.declared.build.Model.{Model}
 use Rattle.keys.specs.Slack.{slack_of, slack_at, slack_in, slacks_of}
-use Rattle.search.specs.Spread.{Modelled}
+use Rattle.search.specs.Modelled.{Modelled}
 
 module _ {model : Model} {f g : ℕ} (m : Modelled model f g) where
   -- there are as many slacks as flows

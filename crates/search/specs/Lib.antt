@@ -1,3 +1,3 @@
--- The answer of the search, and the paths as its code holds them.
+-- The answer of the search, and what its code asks of a model.
 pub mod Answering
-pub mod Spread
+pub mod Modelled

@@ -3,4 +3,4 @@
 
 mod taking;
 
-pub use taking::{State, Turned, no_times, settle, turn_away};
+pub use taking::{State, Turned, nothing_taken, settle};

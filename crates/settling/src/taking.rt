@@ -1,9 +1,10 @@
-// The search's state; a packet takes a time, or is turned away; and a table that holds no time.
-ghost use Rattle.std.specs.Prelude.{◌≡◌, ◌<◌, set, replicate};
-ghost use Rattle.packet.specs.Table.{none};
-ghost use Rattle.order.specs.Lists.{shifted, Room};
-ghost use Rattle.settling.specs.Settling.{turned_away, TurnsAway};
+// The search's state; a packet takes a time, or is turned away; and a pass begins with nothing placed.
+ghost use Rattle.std.specs.Prelude.{◌≡◌, ◌<◌};
+ghost use Rattle.order.specs.Lists.{Room};
+ghost use Rattle.kept.specs.Kept.{added};
+ghost use Rattle.settling.specs.Settling.{nothing_taken, turned, turned_away, TurnsAway};
 
+use kept::Taken;
 use order::put_in;
 use packet::NO_TIME;
 
@@ -16,57 +17,50 @@ pub struct State {
     pub base: usize,
 }
 
-// The state once a packet was turned away, and whether a new pass begins.
-#[derive(Clone, Copy)]
-pub struct Turned {
-    pub state: State,
-    pub again: bool,
+// What follows for a packet that is turned away: a new pass begins, or it is skipped and the pass goes on.
+#[derive(Clone, Copy, PartialEq, Eq, Debug)]
+pub enum Turned {
+    Again,
+    Skipped,
+}
+
+impl State {
+    // No time will do for a packet, which comes at a place of the order: its fail count rises and it goes to the front. Below the threshold
+    // a new pass begins there; at the threshold the list begins after it, and it is skipped.
+    pub fn turn_away(&mut self, at: usize, packet: u16, threshold: u32) -> Turned
+        requires { TurnsAway self.old at packet }
+        ensures { (self.new ≡ turned_away self.old at packet threshold) × (result ≡ turned self.old packet threshold) }
+    {
+        let p = packet as usize;
+        let fail = self.fails[p] + 1;
+        self.fails[p] = fail;
+        put_in(&mut self.order, self.base, at, packet);
+        if (fail as u32) < threshold {
+            return Turned::Again;
+        }
+        self.base += 1;
+        Turned::Skipped
+    }
 }
 
 // A packet takes a time: it goes into its place of the table, and at a spot among the placed packets.
-pub fn settle(
-    times: &mut [u32; 1024],
-    by: &mut [u16; 1024],
-    count: usize,
-    spot: usize,
-    packet: u16,
-    time: u32,
-)
-    requires { Room by.old spot count × (packet < 1024) }
-    ensures { (times.new ≡ set times.old packet time) × (by.new ≡ shifted by.old spot count packet) }
+pub fn settle(taken: &mut Taken, spot: usize, packet: u16, time: u32)
+    requires { Room taken.old.by spot taken.old.count × (packet < 1024) }
+    ensures { taken.new ≡ added taken.old spot packet time }
 {
-    times[packet as usize] = time;
-    put_in(by, spot, count, packet);
+    taken.times[packet as usize] = time;
+    put_in(&mut taken.by, spot, taken.count, packet);
+    taken.count += 1;
 }
 
-// No time will do for a packet, which comes at a place of the order: its fail count rises and it goes to the front. Below the threshold a
-// new pass begins there; at the threshold the list begins after it, and it is skipped.
-pub fn turn_away(s: State, at: usize, packet: u16, threshold: u32) -> Turned
-    requires { TurnsAway s at packet }
-    ensures { result ≡ turned_away s at packet threshold }
+// Nothing is placed: no packet has a time.
+#[tactic(auto, unfolding(crate::specs::Settling::nothing_taken))]
+pub fn nothing_taken() -> Taken
+    ensures { result ≡ nothing_taken }
 {
-    let base = s.base;
-    let p = packet as usize;
-    let fail = s.fails[p] + 1;
-    let mut next = s;
-    next.fails[p] = fail;
-    put_in(&mut next.order, base, at, packet);
-    if (fail as u32) < threshold {
-        return Turned {
-            state: next,
-            again: true,
-        };
+    Taken {
+        times: [NO_TIME; 1024],
+        by: [0; 1024],
+        count: 0,
     }
-    next.base = base + 1;
-    Turned {
-        state: next,
-        again: false,
-    }
-}
-
-// A table that holds no time.
-pub fn no_times() -> [u32; 1024]
-    ensures { result ≡ replicate 1024 none }
-{
-    [NO_TIME; 1024]
 }

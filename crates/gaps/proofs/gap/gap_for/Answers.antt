@@ -1,12 +1,12 @@
--- `gap_for` sweeps, and walks back from where the sweep ended.
-use Rattle.gaps.proofs.Facing.{gap_at_lem, gap_nowhere}
+-- `gap_for` sweeps, and finds the first that starts after the time.
+use mathlib.Core.Path.{refl, sym}
+use Rattle.gaps.specs.Gaps.{gap_in, spot_in}
 use Rattle.gaps.proofs.gap.gap_for.Goals as goal
 
-pub back_to-requires : goal.back_to-requires
-back_to-requires c = record { kept = c.requires.kept; within = c.sweep-swept.ensures.within; later = c.sweep-swept.ensures.later _ _ c.in-At.is }
-
 pub returns-in-At : goal.returns-in-At
-returns-in-At c = gap_at_lem c.sweep-swept.ensures c.in-At.is c.back_to.ensures
+unfolding gap_in spot_in
+returns-in-At c = rw (sym c.sweep-placed.ensures, c.in-At.is, c.first_after-spot.ensures) refl
 
 pub returns-in-Nowhere : goal.returns-in-Nowhere
-returns-in-Nowhere c = gap_nowhere c.sweep-swept.ensures c.in-Nowhere.is
+unfolding gap_in spot_in
+returns-in-Nowhere c = rw (sym c.sweep-placed.ensures, c.in-Nowhere.is) refl

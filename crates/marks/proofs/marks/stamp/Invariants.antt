@@ -1,9 +1,7 @@
 -- `stamp` makes one mark in each turn.
-use Prim.Native.Nat.{◌≤◌}
 use mathlib.Core.Path.{◌≡◌}
-use lib.ListN.{get_or}
 use Rattle.marks.specs.Marks.{stamped}
 use Rattle.marks.proofs.marks.stamp.Given as goal
 
-abbrev pub invariant-loop-a : goal.invariant-loop-a
-invariant-loop-a l = (l.a ≤ l.a-end) × (l.a-end ≡ get_or l.lens l.own 0) × (l.a-end ≤ 32) × (l.marks ≡ stamped l.links l.own l.a l.initial.marks)
+abbrev pub invariant-loop-link : goal.invariant-loop-link
+invariant-loop-link l = l.marks ≡ stamped l.path l.own l.link-index l.initial.marks

@@ -3,8 +3,8 @@ use Prim.Native.Nat.{◌+◌, ◌-◌, ◌*◌}
 use Rattle.passes.proofs.Searching.{Searching}
 use Rattle.passes.proofs.repeat.rounds.Given as goal
 
-abbrev pub invariant-loop-traffic : goal.invariant-loop-traffic
-invariant-loop-traffic l = Searching l.traffic l.pruning l.threshold l.initial.state.order l.state l.passes l.tries
+abbrev pub invariant-loop-times : goal.invariant-loop-times
+invariant-loop-times l = Searching l.traffic l.pruning l.threshold l.initial.state.order l.state l.passes l.tries
 
-abbrev pub decreases-loop-traffic : goal.decreases-loop-traffic
-decreases-loop-traffic l = l.traffic.count * (l.threshold - 1) + 1 - l.passes
+abbrev pub decreases-loop-times : goal.decreases-loop-times
+decreases-loop-times l = l.traffic.count * (l.threshold - 1) + 1 - l.passes

@@ -1,4 +1,4 @@
--- `run` puts the packets in order of least slack, spreads the paths, and takes the passes (proofs/Slack.antt, proofs/Modelling.antt).
+-- `run` puts the packets in order of least slack, and takes the passes (proofs/Slack.antt, proofs/Modelling.antt).
 use mathlib.Core.Path.{◌∙◌}
 use Rattle.passes.proofs.Start.{listing_sorted}
 use Rattle.search.proofs.Slack.{slacks_long, slack_order}
@@ -12,11 +12,8 @@ slacks-key-requires c = c.requires.keyed
 pub by_flow-list-requires : goal.by_flow-list-requires
 by_flow-list-requires c = (rw c.slacks-key.ensures (slacks_long c.requires), c.requires.grouped)
 
-pub links_of-requires : goal.links_of-requires
-links_of-requires c = c.requires.whole
-
 pub rounds-requires : goal.rounds-requires
-rounds-requires c = record { ready = modelled_ready c.requires c.longest_of.ensures c.lens_of.ensures c.links_of.ensures; listing = listing_sorted _ _ _ (search rules) c.by_flow-list.ensures }
+rounds-requires c = record { ready = modelled_ready c.requires c.longest_of.ensures; listing = listing_sorted _ _ _ (search rules) c.by_flow-list.ensures }
 
 pub returns : goal.returns
-returns c = (modelled_search c.requires c.longest_of.ensures c.lens_of.ensures c.links_of.ensures c.rounds.ensures _ (c.by_flow-list.ensures ∙ slack_order c.requires _ c.slacks-key.ensures), c.rounds.ensures.times_long)
+returns c = (modelled_search c.requires c.longest_of.ensures c.rounds.ensures _ (c.by_flow-list.ensures ∙ slack_order c.requires _ c.slacks-key.ensures), c.rounds.ensures.times_long)

@@ -1,51 +1,59 @@
 -- `is_twin` asks one after the other.
-use mathlib.Core.Path.{refl, sym}
-use native.Mathlib.Omega.{arith}
-use borrow.Author.Tests.{ne_eqb, eq-eqb, le-leb, lt-leb}
+use mathlib.Core.Path.{◌≡◌, ◌∙◌, ap}
+use mathlib.Core.Bool.{not}
+use lib.Dec.{eqb, leb}
+use lib.ListN.{get_or}
+use borrow.Author.Tests.{ne_eqb, eq-eqb}
+use Rattle.basics.specs.Choose.{both}
+use Rattle.packet.specs.Table.{none}
 use Rattle.load.specs.Load.{flow_at, span_of}
 use Rattle.twins.specs.Twins.{is_twin}
+use Rattle.twins.proofs.Twinning.{path_test, chain_pass, chain_fail}
+use Rattle.twins.proofs.following.is_twin.Goals.{then-taken-q, else-taken-q, then-traffic-q, else-traffic-q}
 use Rattle.twins.proofs.following.is_twin.Goals as goal
 
-pub returns-then-times-q : goal.returns-then-times-q
-unfolding is_twin
-returns-then-times-q c = sym (rw (eq-eqb _ _ c.if-times-q.true) refl)
-
-pub returns-then-release-q : goal.returns-then-release-q
-unfolding is_twin
-returns-then-release-q c = sym (rw (ne_eqb _ _ c.if-times-q.false, ne_eqb _ _ c.if-release-q.true) refl)
-
-pub overflow_cast-own : goal.overflow_cast-own
+pub bounds-traffic-other : goal.bounds-traffic-other
 unfolding flow_at
-overflow_cast-own c = omega (arith, c.requires.loaded.flows _ c.requires.first_in)
+bounds-traffic-other c = c.requires.loaded.flows _ c.requires.second_in
 
-pub overflow_cast-other : goal.overflow_cast-other
+pub bounds-traffic-own : goal.bounds-traffic-own
 unfolding flow_at
-overflow_cast-other c = omega (arith, c.requires.loaded.flows _ c.requires.second_in)
+bounds-traffic-own c = c.requires.loaded.flows _ c.requires.first_in
 
-pub offset_bounds-occupancy-own : goal.offset_bounds-occupancy-own
+pub path-requires : goal.path-requires
 unfolding flow_at
-offset_bounds-occupancy-own c = omega (arith, c.requires.loaded.flows _ c.requires.first_in)
+path-requires c = (c.requires.loaded.flows _ c.requires.first_in, c.requires.loaded.paths)
 
-pub bounds-occupancy-own : goal.bounds-occupancy-own
+pub path-requires-then-traffic-other : goal.path-requires-then-traffic-other
 unfolding flow_at
-bounds-occupancy-own c = c.requires.loaded.flows _ c.requires.first_in
+path-requires-then-traffic-other c = (c.requires.loaded.flows _ c.requires.second_in, c.requires.loaded.paths)
 
-pub offset_bounds-occupancy-other : goal.offset_bounds-occupancy-other
-unfolding flow_at
-offset_bounds-occupancy-other c = omega (arith, c.requires.loaded.flows _ c.requires.second_in)
+pub returns-then-traffic-other : goal.returns-then-traffic-other
+unfolding is_twin span_of flow_at
+returns-then-traffic-other c =
+    let one : c.if-taken-q.value ≡ both (not (eqb (get_or c.args.taken.now.times c.args.q 0) none)) (eqb (get_or c.args.traffic.now.release c.args.q 0) (get_or c.args.traffic.now.release c.args.p 0)) =
+    elim c.if-taken-q.branch [
+      | then-taken-q w ↦ rw (ne_eqb _ _ w.if-taken-q.true) w.value-is
+      | else-taken-q w ↦ rw (eq-eqb _ _ w.if-taken-q.false) (w.value-is ∙ ap not (eq-eqb _ _ w.if-taken-q.false))
+    ] in
+    let two : c.if-traffic-q.value ≡ both c.if-taken-q.value (leb (span_of c.args.traffic.now (flow_at c.args.traffic.now c.args.q)) (span_of c.args.traffic.now (flow_at c.args.traffic.now c.args.p))) =
+    elim c.if-traffic-q.branch [
+      | then-traffic-q w ↦ rw w.if-traffic-q.true w.value-is
+      | else-traffic-q w ↦ rw w.if-traffic-q.false (w.value-is ∙ w.if-traffic-q.false)
+    ] in
+    chain_pass _ _ _ one two c.if-traffic-other.true (path_test c.args.traffic.now _ _ c.path.ensures c.path-then-traffic-other.ensures c.eq.ensures)
 
-pub bounds-occupancy-other : goal.bounds-occupancy-other
-unfolding flow_at
-bounds-occupancy-other c = c.requires.loaded.flows _ c.requires.second_in
-
-pub returns-then-occupancy-own : goal.returns-then-occupancy-own
-unfolding is_twin flow_at span_of
-returns-then-occupancy-own c = sym (rw (ne_eqb _ _ c.if-times-q.false, eq-eqb _ _ c.if-release-q.false, lt-leb _ _ c.if-occupancy-own.true) refl)
-
-pub same_path-requires : goal.same_path-requires
-unfolding flow_at
-same_path-requires c = (c.requires.loaded.paths, c.requires.loaded.flows _ c.requires.first_in, c.requires.loaded.flows _ c.requires.second_in)
-
-pub returns : goal.returns
-unfolding is_twin flow_at span_of
-returns c = sym (rw (ne_eqb _ _ c.if-times-q.false, eq-eqb _ _ c.if-release-q.false, le-leb _ _ c.if-occupancy-own.false) (sym c.same_path.ensures))
+pub returns-else-traffic-other : goal.returns-else-traffic-other
+unfolding is_twin span_of flow_at
+returns-else-traffic-other c =
+    let one : c.if-taken-q.value ≡ both (not (eqb (get_or c.args.taken.now.times c.args.q 0) none)) (eqb (get_or c.args.traffic.now.release c.args.q 0) (get_or c.args.traffic.now.release c.args.p 0)) =
+    elim c.if-taken-q.branch [
+      | then-taken-q w ↦ rw (ne_eqb _ _ w.if-taken-q.true) w.value-is
+      | else-taken-q w ↦ rw (eq-eqb _ _ w.if-taken-q.false) (w.value-is ∙ ap not (eq-eqb _ _ w.if-taken-q.false))
+    ] in
+    let two : c.if-traffic-q.value ≡ both c.if-taken-q.value (leb (span_of c.args.traffic.now (flow_at c.args.traffic.now c.args.q)) (span_of c.args.traffic.now (flow_at c.args.traffic.now c.args.p))) =
+    elim c.if-traffic-q.branch [
+      | then-traffic-q w ↦ rw w.if-traffic-q.true w.value-is
+      | else-traffic-q w ↦ rw w.if-traffic-q.false (w.value-is ∙ w.if-traffic-q.false)
+    ] in
+    chain_fail _ _ _ _ one two c.if-traffic-other.false

@@ -1,80 +1,69 @@
 -- `resume` asks whether there is a twin, and goes behind it.
 use mathlib.Core.Path.{◌≡◌, refl, sym, ◌∙◌}
-use mathlib.Core.Bool.{true}
-use mathlib.Core.List.{List}
 use lib.ListN.{get_or}
-use Prim.Native.Nat.{ℕ, ◌-◌, ◌≤◌, ◌<◌}
+use Prim.Native.Nat.{ℕ, ◌≤◌, ◌<◌}
 use native.Mathlib.Omega.{arith}
-use borrow.Author.Tests.{lt-ltb, le-ltb, le-leb, lt-leb}
+use Rattle.std.specs.Prelude.{Some}
 use Rattle.hyperperiod.specs.Hyper.{most}
-use Rattle.load.specs.Load.{Load, flow_at, span_of}
-use Rattle.twins.specs.Twins.{is_twin, resume_at, Resume}
-use Rattle.twins.proofs.Twinning.{twin_timed}
+use Rattle.load.specs.Load.{flow_at, span_of}
+use Rattle.load.specs.declared.traffic.Traffic.{Traffic}
+use Rattle.kept.specs.declared.finding.Taken.{Taken}
+use Rattle.twins.specs.Twins.{twin_at, behind, resume_at, Resume}
+use Rattle.twins.proofs.Twinning.{twin_found, twin_timed}
 use Rattle.twins.proofs.following.resume.Goals as goal
 
--- a twin so many packets before p starts soon, and holds its links for some cycles and not for long
-behind : {load : Load} (release : List ℕ) {times : List ℕ} {f p back : ℕ} → Resume load times f p → 1 ≤ back → back ≤ p
-    → is_twin load release times p (p - back) ≡ true
-    → (get_or times (p - back) 0 ≤ most) × (0 < span_of load (flow_at load (p - back))) × (span_of load (flow_at load (p - back)) ≤ most)
-behind {load} release {times} {f} {p} {back} s some within e =
-    let before : p - back < p = omega arith in (
-      s.soon (p - back) before (twin_timed load release times p (p - back) e),
-      s.lasting (p - back) before,
-      s.loaded.spans (flow_at load (p - back)) (s.loaded.flows (p - back) (omega (arith, s.packet))),
-    )
+-- a twin of packet p stands before it, starts soon, and holds its links for some cycles and not for long
+record Behind (traffic : Traffic) (taken : Taken) (p q : ℕ) : Type 0 where
+  before : q < p
+  number : q < 1024
+  flow : get_or traffic.flow q 0 < 64
+  soon : get_or taken.times q 0 ≤ most
+  lasting : 0 < get_or traffic.occupancy (get_or traffic.flow q 0) 0
+  short : get_or traffic.occupancy (get_or traffic.flow q 0) 0 ≤ most
 
-pub returns-then-back-lt1 : goal.returns-then-back-lt1
-unfolding resume_at
-returns-then-back-lt1 c = let none : c.args.back ≤ 0 = omega (arith, c.if-back-lt1.true) in sym (rw (le-ltb 0 c.args.back none) refl)
+twin_behind : {traffic : Traffic} {taken : Taken} {f p q : ℕ} → Resume traffic taken f p → {r : _} → r ≡ twin_at traffic taken p → r ≡ Some q
+    → Behind traffic taken p q
+unfolding flow_at span_of
+twin_behind {traffic} {taken} {f} {p} {q} s e h =
+    let found = twin_found traffic taken p q (sym e ∙ h) in
+    let number : q < 1024 = omega (arith, found.0, s.packet) in
+    record {
+      before = found.0;
+      number = number;
+      flow = s.loaded.flows q number;
+      soon = s.soon q found.0 (twin_timed traffic taken p q found.1);
+      lasting = s.lasting q found.0;
+      short = s.loaded.spans _ (s.loaded.flows q number);
+    }
 
-pub returns-then-p-back : goal.returns-then-p-back
-unfolding resume_at
-returns-then-p-back c = let some : 0 < c.args.back = omega (arith, c.if-back-lt1.false) in sym (rw (lt-ltb 0 c.args.back some, lt-leb _ _ c.if-p-back.true) refl)
+pub offset_bounds-taken-q : goal.offset_bounds-taken-q
+offset_bounds-taken-q c = omega (arith, twin_behind c.requires c.twin_of.ensures c.in-Some.is)
 
-pub is_twin-requires : goal.is_twin-requires
-is_twin-requires c = record { loaded = c.requires.loaded; first_in = c.requires.packet; second_in = omega (arith, c.requires.packet) }
+pub bounds-taken-q : goal.bounds-taken-q
+bounds-taken-q c = (twin_behind c.requires c.twin_of.ensures c.in-Some.is).number
 
-pub offset_bounds-times-q : goal.offset_bounds-times-q
-offset_bounds-times-q c = omega (arith, c.requires.packet)
+pub offset_bounds-traffic-q : goal.offset_bounds-traffic-q
+offset_bounds-traffic-q c = omega (arith, twin_behind c.requires c.twin_of.ensures c.in-Some.is)
 
-pub bounds-times-q : goal.bounds-times-q
-bounds-times-q c = omega (arith, c.requires.packet)
+pub bounds-traffic-q : goal.bounds-traffic-q
+bounds-traffic-q c = (twin_behind c.requires c.twin_of.ensures c.in-Some.is).number
 
-pub offset_bounds-flow-q : goal.offset_bounds-flow-q
-offset_bounds-flow-q c = omega (arith, c.requires.packet)
-
-pub bounds-flow-q : goal.bounds-flow-q
-bounds-flow-q c = omega (arith, c.requires.packet)
-
-pub overflow_cast-other : goal.overflow_cast-other
-unfolding flow_at
-overflow_cast-other c = omega (arith, c.requires.loaded.flows (c.args.p - c.args.back) (omega (arith, c.requires.packet)))
-
-pub offset_bounds-occupancy-other : goal.offset_bounds-occupancy-other
-unfolding flow_at
-offset_bounds-occupancy-other c = omega (arith, c.requires.loaded.flows (c.args.p - c.args.back) (omega (arith, c.requires.packet)))
-
-pub bounds-occupancy-other : goal.bounds-occupancy-other
-unfolding flow_at
-bounds-occupancy-other c = c.requires.loaded.flows (c.args.p - c.args.back) (omega (arith, c.requires.packet))
+pub bounds-traffic-other : goal.bounds-traffic-other
+bounds-traffic-other c = (twin_behind c.requires c.twin_of.ensures c.in-Some.is).flow
 
 pub overflow_add-start : goal.overflow_add-start
-unfolding flow_at span_of
-overflow_add-start c =
-    let twin = behind c.args.release.now c.requires c.if-back-lt1.false c.if-p-back.false (sym c.is_twin.ensures ∙ c.if-is_twin.true) in
-    omega (arith, twin)
+overflow_add-start c = omega (arith, twin_behind c.requires c.twin_of.ensures c.in-Some.is)
 
 pub time_past-requires : goal.time_past-requires
-unfolding flow_at span_of
 time_past-requires c =
     let s = c.requires in
-    let twin = behind c.args.release.now s c.if-back-lt1.false c.if-p-back.false (sym c.is_twin.ensures ∙ c.if-is_twin.true) in
+    let twin = twin_behind c.requires c.twin_of.ensures c.in-Some.is in
     record { before = omega (arith, twin); soon = omega (arith, twin); some_step = s.some_step; small_step = s.small_step }
 
-pub returns-then-is_twin : goal.returns-then-is_twin
-unfolding resume_at flow_at span_of
-returns-then-is_twin c = let some : 0 < c.args.back = omega (arith, c.if-back-lt1.false) in c.time_past.ensures ∙ sym (rw (lt-ltb 0 c.args.back some, le-leb _ _ c.if-p-back.false, sym c.is_twin.ensures ∙ c.if-is_twin.true) refl)
+pub returns-in-Some : goal.returns-in-Some
+unfolding resume_at behind flow_at span_of
+returns-in-Some c = c.time_past.ensures ∙ sym (rw (sym c.twin_of.ensures, c.in-Some.is) refl)
 
-pub returns : goal.returns
-unfolding resume_at
-returns c = let some : 0 < c.args.back = omega (arith, c.if-back-lt1.false) in sym (rw (lt-ltb 0 c.args.back some, le-leb _ _ c.if-p-back.false, sym c.is_twin.ensures ∙ c.if-is_twin.false) refl)
+pub returns-in-None : goal.returns-in-None
+unfolding resume_at behind
+returns-in-None c = sym (rw (sym c.twin_of.ensures, c.in-None.is) refl)

@@ -1,21 +1,11 @@
--- The paths of the flows in one array of links, and what the search asks of a model.
-use Rattle.std.specs.Prelude.{◌≡◌, List, ℕ, ◌+◌, ◌*◌, ◌≤◌, ◌<◌, length, get_or}
+-- What the search asks of a model.
+use Rattle.std.specs.Prelude.{◌≡◌, ℕ, ◌+◌, ◌≤◌, ◌<◌, length, get_or}
 use Rattle.mesh.specs.Link.{all_links}
-use Rattle.routes.specs.declared.paths.Path.{Path}
 use Rattle.hyperperiod.specs.Hyper.{most}
 use Rattle.order.specs.Grouped.{Grouped}
 use Rattle.arrays.specs.Arrays.{no_path, packet_in}
 use Rattle.arrays.specs.declared.build.Model.{Model}
 use Rattle.keys.specs.Slack.{Keyed}
-
--- place a of flow g holds link a of its path
-pub record Spread (paths : List Path) (links : List ℕ) : Type 0 where
-  pub long : length links ≡ 2048
-  pub links_at : (g a : ℕ) → g < 64 → a < 32 → get_or links (g * 32 + a) 0 ≡ get_or (get_or paths g no_path).links a 0
-
--- entry g is how many links the path of flow g has
-pub record Lens (paths : List Path) (lens : List ℕ) : Type 0 where
-  pub lens_at : (g : ℕ) → g < 64 → get_or lens g 0 ≡ (get_or paths g no_path).len
 
 -- what the search asks of a model: packets in time, flow after flow, paths of links, and settings in their ranges
 pub record Modelled (model : Model) (f g : ℕ) : Type 0 where
