@@ -10,7 +10,7 @@ use Rattle.mesh.specs.Node.{place_of, node_at, apart, Inside}
 use Rattle.mesh.specs.declared.nodes.Place.{Place}
 
 -- the number of a node's row, times the columns
-pub row_small : (row columns : ℕ) → row < 16 → columns ≤ 16 → row * columns ≤ 240
+row_small : (row columns : ℕ) → row < 16 → columns ≤ 16 → row * columns ≤ 240
 row_small row columns h k = mul-le-mul {n₂ = 15} {m₂ = 16} (omega arith) k
 
 -- what is below a bound is apart by less than it

@@ -3,7 +3,7 @@ use mathlib.Core.Path.{◌≡◌, sym, ◌∙◌, ap, ap₂, subst}
 use Prim.Native.Nat.{ℕ, suc, ◌+◌, ◌-◌, ◌≤◌, ◌<◌}
 use native.Mathlib.Omega.{arith}
 use Rattle.mesh.specs.Node.{node_at}
-use Rattle.mesh.specs.Link.{link_of, end_of, Inner}
+use Rattle.mesh.specs.Link.{link_of, end_of}
 use Rattle.routes.specs.Growing.{pushed, walked, Stays}
 use Rattle.mesh.specs.declared.nodes.Place.{Place}
 use Rattle.routes.specs.declared.paths.Path.{Path}
@@ -28,12 +28,6 @@ next_step path columns kind n i at h = ap (λ (k : ℕ). walked path columns kin
 -- the next step starts inside, and the steps after it stay there
 pub next_stays : (columns kind n i : ℕ) (at : Place) → i < n → Stays columns 16 kind (n - i) at → Stays columns 16 kind (suc (n - (i + 1))) at
 next_stays columns kind n i at h s = subst (λ (k : ℕ). Stays columns 16 kind k at) (left n i h) s
-
--- what the next step asks
-pub next_inner : (columns kind n i : ℕ) (at : Place) → columns ≤ 16 → i < n → Stays columns 16 kind (n - i) at → Inner kind at
-next_inner columns kind n i at few h s =
-    let t = next_stays columns kind n i at h s in
-    record { column_in = omega (arith, t.0.column_in); row_in = t.0.row_in; column_left = t.1; row_left = t.2 }
 
 -- a turn with the link of the place pushed and the place moved to that link's end
 pub next_walking : {columns kind n i : ℕ} {path₀ path path' : Path} {from at at' : Place} {node link : ℕ}
