@@ -1,8 +1,8 @@
 -- That over a model that is not refused the check's verdict is the verdict of document 01.
-use mathlib.Core.Path.{◌≡◌, refl, sym, ◌∙◌, ap, ap₂, subst}
-use mathlib.Core.Bool.{Bool, not}
+use mathlib.Core.Path.{◌≡◌, refl, sym, ◌∙◌, ap, ap₂}
+use mathlib.Core.Bool.{not}
 use mathlib.Core.List.{List}
-use Prim.Native.Nat.{ℕ, ◌≤◌, ◌<◌}
+use Prim.Native.Nat.{ℕ, ◌<◌}
 use native.Mathlib.Omega.{arith}
 use lib.Dec.{ltb}
 use lib.ListN.{length}
@@ -10,7 +10,7 @@ use Rattle.std.specs.Prelude.{Option, Some, None}
 use Rattle.std.specs.Option.{option_map}
 use Rattle.basics.specs.Choose.{both}
 use Rattle.basics.specs.First.{first, some, found}
-use Rattle.basics.proofs.First.{first_same, some_same, first_le, found_first, found_not}
+use Rattle.basics.proofs.First.{first_same, some_same, found_same, found_first, found_not}
 use Rattle.packet.specs.Packet.{Packet, may_start, collide}
 use Rattle.packet.specs.Table.{time_at, outside, meets, meets_higher}
 use Rattle.model.specs.Packets.{hyper_in, packets_in, packets_of}
@@ -23,35 +23,17 @@ use Rattle.arrays.specs.declared.build.Packets.{Packets}
 use Rattle.model.proofs.Numbering.{packets_length}
 use Rattle.arrays.proofs.Reading.{model_count, packet_in_lem}
 use Rattle.refusals.proofs.Accepted.{fair_accepted}
+use Rattle.pairs.proofs.Pairs.{pair_is}
 use Rattle.audit.specs.Check.{too_short, check_refusal, first_meeting, verdict_of, check_of}
 use Rattle.ranges.specs.Ranges.{strays, Scan}
 use Rattle.pairs.specs.Scan.{meets_in, higher_in, first_pair, Timely}
 use Rattle.pairs.specs.declared.scan.Pair.{Pair}
 use Rattle.audit.specs.Verdict.{verdict_in}
 
--- ---- what is found
-
--- two tests that agree on every number below n find the same
-found_same : (f g : ℕ → Bool) (n : ℕ) → ((i : ℕ) → i < n → f i ≡ g i) → found f n ≡ found g n
-unfolding found
-found_same f g n same = rw (some_same f g n same, first_same f g n same)
-
 -- a pair that is found is of packets
 pub pair_small : (flows : Flows) (packets : Packets) (table : List ℕ) (pair : Pair) → first_pair flows packets table ≡ Some pair
-    → (pair.a < packets.count) × (pair.b ≤ packets.count)
-unfolding first_pair
-pair_small flows packets table pair e = go (found (higher_in flows packets table) packets.count) refl e
-  where
-    made : ℕ → Pair
-    made a = record { a = a; b = first (meets_in flows packets table a) packets.count }
-
-    go : (x : Option ℕ) → found (higher_in flows packets table) packets.count ≡ x → option_map made x ≡ Some pair
-        → (pair.a < packets.count) × (pair.b ≤ packets.count)
-    go None d p = absurd (let z : ◌≡◌ {A = ℕ} 0 1 = cc in omega arith)
-    go (Some a) d p =
-        let is : made a ≡ pair = cc in
-        subst (λ (q : Pair). (q.a < packets.count) × (q.b ≤ packets.count)) is
-        ((found_first (higher_in flows packets table) packets.count a d).0, first_le (meets_in flows packets table a) packets.count)
+    → (pair.a < packets.count) × (pair.b < packets.count)
+pair_small flows packets table pair e = let w = pair_is flows packets table pair e in (w.0, w.1)
 
 -- where no packet is out of its range, the walk over pairs has what it asks
 pub timely_past : (flows : Flows) (packets : Packets) (table : List ℕ) → Scan flows packets table → found (strays flows packets table) packets.count ≡ None
