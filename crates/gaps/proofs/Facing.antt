@@ -17,7 +17,7 @@ use Rattle.std.specs.Prelude.{Option}
 use Rattle.load.proofs.Paths.{path_apart}
 use Rattle.marks.specs.Marks.{has_mark}
 use Rattle.gaps.specs.Gaps.{flow_of, slots_to, placed_in, Sweep}
-use Rattle.gaps.specs.Sweeps.{time_past, EndAhead}
+use Rattle.gaps.specs.Sweeps.{time_past, EndAhead, Back}
 use Rattle.gaps.specs.declared.gap.Placed.TheVariants.{At, Nowhere}
 use Rattle.gaps.proofs.Sweeping.{Sweeping, sweep_jump, sweep_apart, sweep_clear, sweep_early, sweep_none}
 
@@ -127,3 +127,16 @@ module _ {traffic : Traffic} {marks : List (Option ℕ)} {taken : Taken} {g f be
     -- all placed packets are passed
     pub ends_clear : taken.count ≤ j → At t m ≡ placed_in traffic taken g f begin latest
     ends_clear h = rw e (sweep_clear s.swept s.asks.some_step latest s.going h)
+
+  -- from the packet on where it ends all start after the time
+  module _ {j₀ : ℕ} (s : AtPacket traffic marks taken g f begin latest from at span j₀ j t) where
+    pub early_back : t + span ≤ start_of taken j → Back taken j t
+    unfolding span_of
+    early_back l = record {
+      kept = s.asks.kept;
+      within = s.swept.within;
+      later = λ i a b. let r = s.asks.kept.rising j i a b in omega (arith, s.asks.lasting, s.span_is);
+    }
+
+    pub clear_back : taken.count ≤ j → Back taken j t
+    clear_back h = record { kept = s.asks.kept; within = s.swept.within; later = λ i a b. absurd (omega arith) }

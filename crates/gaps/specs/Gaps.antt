@@ -54,9 +54,6 @@ gap_in traffic taken g f begin latest = record {
 }
 
 -- the same of a packet that a gap is sought for
-abbrev pub placed_for : Traffic → Taken → Sought → Placed
-placed_for traffic taken s = placed_in traffic taken s.own s.pruning s.begin s.latest
-
 abbrev pub gap_for : Traffic → Taken → Sought → Gap
 gap_for traffic taken s = gap_in traffic taken s.own s.pruning s.begin s.latest
 

@@ -1,7 +1,8 @@
 // The first gap for a packet: one forward sweep over the placed packets, in order of their start.
 ghost use Rattle.std.specs.Prelude.{◌≡◌, ◌≤◌, ◌<◌};
-ghost use Rattle.gaps.specs.Gaps.{gap_for, placed_for, slots_to, Seeks};
-ghost use Rattle.gaps.specs.Sweeps.{time_past, EndAhead};
+ghost use Rattle.kept.specs.Kept.{spot_of};
+ghost use Rattle.gaps.specs.Gaps.{gap_for, slots_to, Seeks};
+ghost use Rattle.gaps.specs.Sweeps.{time_past, EndAhead, Back};
 
 use kept::Taken;
 use load::Traffic;
@@ -56,25 +57,42 @@ pub fn time_past(t: u32, end: u32, pruning: u32) -> u32
     t + (end - t + pruning - 1) / pruning * pruning
 }
 
-// The first gap. Where a placed packet is in the way, so it is at every time before its end: the next time is the first at its end or
-// past it, and those jumped over count as tried. Placed packets that are over stay over, so the sweep never goes back; one that starts
-// after the packet's end ends it, since all later ones start later.
-fn sweep(
+// Walks back from a placed packet to the first that starts after a time.
+fn back_to(taken: &Taken, next: usize, time: u32) -> usize
+    requires { Back taken.now next time }
+    ensures { result ≡ spot_of taken.now time }
+{
+    let mut before = &taken.by[..next];
+    while let Some((q, rest)) = before.split_last() {
+        if taken.times[*q as usize] <= time {
+            break;
+        }
+        before = rest;
+    }
+    before.len()
+}
+
+// The first gap, and where among the placed packets the packet is put in. Where a placed packet is in the way, so it is at every time
+// before its end: the next time is the first at its end or past it, and those jumped over count as tried. Placed packets that are over
+// stay over, so the sweep never goes back; one that starts after the packet's end ends it, since all later ones start later.
+pub fn gap_for(
     traffic: &Traffic,
     taken: &Taken,
     marks: &[Option<u8>; ALL_LINKS],
     sought: &Sought,
-) -> Placed
+) -> Gap
     requires { Seeks traffic.now marks.now taken.now sought.now }
-    ensures { result ≡ placed_for traffic.now taken.now sought.now }
+    ensures { result ≡ gap_for traffic.now taken.now sought.now }
 {
     let span = traffic.occupancy[sought.own];
     let mut j = sought.at;
     let mut t = sought.from;
     'times: loop {
         if sought.latest < t {
-            break Placed::Nowhere {
-                tries: sought.times_to(sought.latest),
+            let tries = sought.times_to(sought.latest);
+            break Gap {
+                placed: Placed::Nowhere { tries },
+                spot: taken.count,
             };
         }
         // Kept: where the walk stands among the placed packets outlasts each turn of the outer loop, so no iterator of one turn has it.
@@ -98,27 +116,10 @@ fn sweep(
                 }
             }
         }
-        break Placed::At {
-            time: t,
-            tries: sought.times_to(t),
+        let tries = sought.times_to(t);
+        break Gap {
+            placed: Placed::At { time: t, tries },
+            spot: back_to(taken, j, t),
         };
     }
-}
-
-// The first gap, and where among the placed packets the packet is put in.
-pub fn gap_for(
-    traffic: &Traffic,
-    taken: &Taken,
-    marks: &[Option<u8>; ALL_LINKS],
-    sought: &Sought,
-) -> Gap
-    requires { Seeks traffic.now marks.now taken.now sought.now }
-    ensures { result ≡ gap_for traffic.now taken.now sought.now }
-{
-    let placed = sweep(traffic, taken, marks, sought);
-    let spot = match placed {
-        Placed::At { time, .. } => taken.first_after(time),
-        Placed::Nowhere { .. } => taken.count,
-    };
-    Gap { placed, spot }
 }
