@@ -2,7 +2,7 @@
 #![tactic(auto)]
 
 use planner::plan_of;
-use printer::Lines;
+use printer::{Lines, Output};
 use reader::TEXT_BUFFER;
 
 // The numbers of the input and of the output.
@@ -17,7 +17,13 @@ fn main() {
     let n = io::read_full(STDIN, &mut text);
     let mut table = [0u32; 1024];
     let plan = plan_of(&text[..n], &mut table);
-    for line in Lines::new(plan.answer, &table, &plan.flow, &plan.turn) {
+    let output = Output {
+        answer: plan.answer,
+        table: &table,
+        flows: &plan.flow,
+        turns: &plan.turn,
+    };
+    for line in Lines::new(output) {
         if !io::write_all(STDOUT, line.as_bytes()) {
             return;
         }

@@ -10,10 +10,15 @@ use lib.ListN.{length}
 use Rattle.model.specs.declared.answers.Answer.{Answer}
 use Rattle.words.specs.Writer.{in_front}
 use Rattle.printer.specs.Printer.{piece_in, next_in, piece_of, is_done as done_at, Printed}
+use Rattle.printer.specs.ByLine.{line_text, lines_of, lines_left}
 use Rattle.printer.specs.declared.printing.Cursor.{Cursor}
 use Rattle.printer.specs.declared.printing.Piece.{Piece}
 use Rattle.printer.proofs.printing.Cursor.is_done.Reads as is_done
 use Rattle.printer.proofs.printing.Cursor.is_done.Kinds as is_done_kinds
+use Rattle.printer.proofs.line.Line.as_bytes.Reads as as_bytes
+use Rattle.printer.proofs.line.Line.as_bytes.Kinds as as_bytes_kinds
+use Rattle.printer.proofs.text.Lines.new.Reads as new
+use Rattle.printer.proofs.text.Lines.new.Kinds as new_kinds
 use Rattle.printer.proofs.printing.put_piece.Reads as put_piece
 use Rattle.printer.proofs.printing.put_piece.Kinds as put_piece_kinds
 
@@ -32,18 +37,18 @@ printed_once answer₁ answer₂ table₁ table₂ flows₁ flows₂ turns₁ tu
     )
 
 -- a piece and the buffer it leaves, of the same cursor and answer, and of slices that hold the same numbers
-pub put_piece_determined : (κs λs : Lfts 4) (a : Dens κs put_piece_kinds.ps) (b : Dens λs put_piece_kinds.ps)
+pub put_piece_determined : (κs λs : Lfts 2) (a : Dens κs put_piece_kinds.ps) (b : Dens λs put_piece_kinds.ps)
     (x : (res_t put_piece_kinds.r κs).Denot) (y : (res_t put_piece_kinds.r λs).Denot)
-    (s : AtExit (ended_of 4 put_piece_kinds.ps put_piece_kinds.r) κs)
-    (t : AtExit (ended_of 4 put_piece_kinds.ps put_piece_kinds.r) λs)
+    (s : AtExit (ended_of 2 put_piece_kinds.ps put_piece_kinds.r) κs)
+    (t : AtExit (ended_of 2 put_piece_kinds.ps put_piece_kinds.r) λs)
     → a.0 ≡ b.0
-    → a.1.0 ≡ b.1.0
+    → a.1.0.answer ≡ b.1.0.answer
+    → a.1.0.table.now ≡ b.1.0.table.now
+    → a.1.0.flows.now ≡ b.1.0.flows.now
+    → a.1.0.turns.now ≡ b.1.0.turns.now
     → a.1.1.0.now ≡ b.1.1.0.now
-    → a.1.1.1.0.now ≡ b.1.1.1.0.now
-    → a.1.1.1.1.0.now ≡ b.1.1.1.1.0.now
-    → a.1.1.1.1.1.0.now ≡ b.1.1.1.1.1.0.now
     → put_piece.Post κs a x s → put_piece.Post λs b y t
-    → (x ≡ y) × (s.1.1.1.1.1.0.now ≡ t.1.1.1.1.1.0.now)
+    → (x ≡ y) × (s.1.1.0.now ≡ t.1.1.0.now)
 put_piece_determined κs λs a b x y s t c e f g h i p q = printed_once _ _ _ _ _ _ _ _ _ _ _ _ _ _ _ _ c e f g h i p q
 
 -- whether nothing is left at a cursor
@@ -55,3 +60,28 @@ pub is_done_determined : (κs λs : Lfts 0) (a : Dens κs is_done_kinds.ps) (b :
     → is_done.Post κs a x s → is_done.Post λs b y t
     → x ≡ y
 is_done_determined κs λs a b x y s t c p q = p ∙ ap done_at c ∙ sym q
+
+-- the lines that are still to come, of slices that hold the same numbers
+pub new_determined : (κs λs : Lfts 1) (a : Dens κs new_kinds.ps) (b : Dens λs new_kinds.ps)
+    (x : (res_t new_kinds.r κs).Denot) (y : (res_t new_kinds.r λs).Denot)
+    (s : AtExit (ended_of 1 new_kinds.ps new_kinds.r) κs)
+    (t : AtExit (ended_of 1 new_kinds.ps new_kinds.r) λs)
+    → a.0.answer ≡ b.0.answer
+    → a.0.table.now ≡ b.0.table.now
+    → a.0.flows.now ≡ b.0.flows.now
+    → a.0.turns.now ≡ b.0.turns.now
+    → new.Post κs a x s → new.Post λs b y t
+    → lines_left x ≡ lines_left y
+new_determined κs λs a b x y s t e f g h p q =
+    let lines_are : lines_of a.0.answer a.0.table.now a.0.flows.now a.0.turns.now ≡ lines_of b.0.answer b.0.table.now b.0.flows.now b.0.turns.now = cc in
+    p ∙ lines_are ∙ sym q
+
+-- the bytes of a line, of lines that hold the same
+pub as_bytes_determined : (κs λs : Lfts 1) (a : Dens κs as_bytes_kinds.ps) (b : Dens λs as_bytes_kinds.ps)
+    (x : (res_t as_bytes_kinds.r κs).Denot) (y : (res_t as_bytes_kinds.r λs).Denot)
+    (s : AtExit (ended_of 1 as_bytes_kinds.ps as_bytes_kinds.r) κs)
+    (t : AtExit (ended_of 1 as_bytes_kinds.ps as_bytes_kinds.r) λs)
+    → line_text a.0.now ≡ line_text b.0.now
+    → as_bytes.Post κs a x s → as_bytes.Post λs b y t
+    → x.now ≡ y.now
+as_bytes_determined κs λs a b x y s t c p q = p ∙ c ∙ sym q

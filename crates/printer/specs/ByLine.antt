@@ -6,6 +6,7 @@ use Rattle.printer.specs.Printer.{prints_table, table_line, inject_of, end_for, 
 use Rattle.printer.specs.declared.printing.Cursor.{Cursor}
 use Rattle.printer.specs.declared.printing.Cursor.TheVariants.{First, Packet, Done}
 use Rattle.printer.specs.declared.line.Line.{Line}
+use Rattle.printer.specs.declared.printing.Output.{Output}
 use Rattle.printer.specs.declared.text.Lines.{Lines}
 
 -- the bytes of a line
@@ -30,6 +31,11 @@ lines_at answer table flows turns First = lines_of answer table flows turns
 lines_at answer table flows turns (Packet p) = lines_from answer table flows turns p (answer.packets - p)
 lines_at answer table flows turns Done = []
 
+-- the lines of what is printed together
+abbrev pub lines_for : Output → List (List ℕ)
+lines_for output = lines_of output.answer output.table.now output.flows.now output.turns.now
+
 -- the lines that are still to come
 abbrev pub lines_left : Lines → List (List ℕ)
-lines_left lines = lines_at lines.answer lines.table.now lines.flows.now lines.turns.now lines.cursor
+lines_left lines =
+    lines_at lines.output.answer lines.output.table.now lines.output.flows.now lines.output.turns.now lines.cursor

@@ -9,6 +9,7 @@ use Rattle.printer.specs.declared.printing.Cursor.{Cursor}
 use Rattle.printer.specs.declared.printing.Cursor.TheVariants.{First, Packet, Done}
 use Rattle.printer.specs.declared.printing.Field.{Field}
 use Rattle.printer.specs.declared.printing.Field.TheVariants.{Number, Time}
+use Rattle.printer.specs.declared.printing.Output.{Output}
 use Rattle.printer.specs.declared.printing.Piece.{Piece}
 
 -- ---- lines
@@ -108,6 +109,10 @@ piece_of text next = record { len = length text; next = next }
 pub record Printed (answer : Answer) (table flows turns before after : List ℕ) (cursor : Cursor) (piece : Piece) : Type 0 where
   pub answer_is : piece ≡ piece_of (piece_in (length before) answer table flows turns cursor) (next_in (length before) answer cursor)
   pub buffer_is : after ≡ in_front (piece_in (length before) answer table flows turns cursor) before
+
+-- the same, of what is printed together
+abbrev pub PrintedOf : Output → List ℕ → List ℕ → Cursor → Piece → Type 0
+PrintedOf output before after cursor piece = Printed output.answer output.table.now output.flows.now output.turns.now before after cursor piece
 
 -- the text from a cursor on
 unfoldable pub rest_of : Answer → List ℕ → List ℕ → List ℕ → Cursor → List ℕ

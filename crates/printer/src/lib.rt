@@ -6,5 +6,5 @@ mod printing;
 mod text;
 
 pub use line::Line;
-pub use printing::{Cursor, LINE, Piece, put_piece};
+pub use printing::{Cursor, LINE, Output, Piece, put_piece};
 pub use text::Lines;

@@ -1,7 +1,7 @@
 // The printer: the output text, one line at a time.
 ghost use Rattle.std.specs.Prelude.{◌≡◌, ◌+◌, ◌≤◌, length};
 ghost use Rattle.words.specs.Writer.{Put};
-ghost use Rattle.printer.specs.Printer.{prints_table, is_done, field_text, line_of, longest, Printed};
+ghost use Rattle.printer.specs.Printer.{prints_table, is_done, field_text, line_of, longest, PrintedOf};
 ghost use Rattle.printer.specs.declared.printing.Cursor.TheVariants.{First, Packet};
 
 use model::Answer;
@@ -26,6 +26,15 @@ impl Cursor {
     {
         matches!(self, Cursor::Done)
     }
+}
+
+// What is printed: an answer, its table, and the flow and k of each packet.
+#[derive(Clone, Copy)]
+pub struct Output<'a> {
+    pub answer: Answer,
+    pub table: &'a [u32],
+    pub flows: &'a [u16],
+    pub turns: &'a [u16],
 }
 
 // What was printed: the length of the line in the buffer, and the cursor behind it.
@@ -75,10 +84,11 @@ fn put_line(out: &mut [u8], word: &[u8], fields: &[Field]) -> usize
 }
 
 // The first line: the table line, or the refuse line, behind which nothing is left.
-fn put_first(answer: Answer, table: &[u32], flows: &[u16], turns: &[u16], out: &mut [u8]) -> Piece
+fn put_first(output: Output<'_>, out: &mut [u8]) -> Piece
     requires { longest ≤ length out.old }
-    ensures { Printed answer table.now flows.now turns.now out.old out.new First result }
+    ensures { PrintedOf output.entry out.old out.new First result }
 {
+    let answer = output.answer;
     if prints_table(answer.number) {
         let fields = [
             Field::Number(answer.hyper as u64),
@@ -102,22 +112,16 @@ fn put_first(answer: Answer, table: &[u32], flows: &[u16], turns: &[u16], out: &
 }
 
 // A packet's line, or behind the last packet the end line.
-fn put_packet(
-    p: u32,
-    answer: Answer,
-    table: &[u32],
-    flows: &[u16],
-    turns: &[u16],
-    out: &mut [u8],
-) -> Piece
+fn put_packet(p: u32, output: Output<'_>, out: &mut [u8]) -> Piece
     requires { longest ≤ length out.old }
-    ensures { Printed answer table.now flows.now turns.now out.old out.new (Packet p) result }
+    ensures { PrintedOf output.entry out.old out.new (Packet p) result }
 {
+    let answer = output.answer;
     if p < answer.packets {
         let at = p as usize;
-        let flow = flows.get(at).copied().unwrap_or(0);
-        let turn = turns.get(at).copied().unwrap_or(0);
-        let time = table.get(at).copied().unwrap_or(0);
+        let flow = output.flows.get(at).copied().unwrap_or(0);
+        let turn = output.turns.get(at).copied().unwrap_or(0);
+        let time = output.table.get(at).copied().unwrap_or(0);
         let fields = [
             Field::Number(p as u64),
             Field::Number(flow as u64),
@@ -143,15 +147,8 @@ fn put_packet(
 }
 
 // The line at a cursor, put at the front of the buffer. A buffer of less than LINE bytes takes nothing and ends the text.
-pub fn put_piece(
-    cursor: Cursor,
-    answer: Answer,
-    table: &[u32],
-    flows: &[u16],
-    turns: &[u16],
-    out: &mut [u8],
-) -> Piece
-    ensures { Printed answer table.now flows.now turns.now out.old out.new cursor result }
+pub fn put_piece(cursor: Cursor, output: Output<'_>, out: &mut [u8]) -> Piece
+    ensures { PrintedOf output.entry out.old out.new cursor result }
 {
     if out.len() < LINE {
         return Piece {
@@ -160,8 +157,8 @@ pub fn put_piece(
         };
     }
     match cursor {
-        Cursor::First => put_first(answer, table, flows, turns, out),
-        Cursor::Packet(p) => put_packet(p, answer, table, flows, turns, out),
+        Cursor::First => put_first(output, out),
+        Cursor::Packet(p) => put_packet(p, output, out),
         Cursor::Done => Piece {
             len: 0,
             next: Cursor::Done,

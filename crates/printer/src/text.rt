@@ -1,11 +1,10 @@
 // The text of an answer as an iterator over its lines.
 ghost use Rattle.std.specs.Prelude.{◌≡◌};
 ghost use Rattle.std.specs.Iterator.{YieldsFirstBy, item_count};
-ghost use Rattle.printer.specs.ByLine.{line_text, lines_of, lines_left};
+ghost use Rattle.printer.specs.ByLine.{line_text, lines_for, lines_left};
 
 use crate::line::Line;
-use crate::printing::{Cursor, LINE, put_piece};
-use model::Answer;
+use crate::printing::{Cursor, LINE, Output, put_piece};
 
 impl Line {
     // The bytes of the line, the last its line feed.
@@ -20,26 +19,17 @@ impl Line {
 #[derive(Drop)]
 pub struct Lines<'a> {
     cursor: Cursor,
-    answer: Answer,
-    table: &'a [u32],
-    flows: &'a [u16],
-    turns: &'a [u16],
+    output: Output<'a>,
 }
 
 impl<'a> Lines<'a> {
     // All lines of an answer's text, one after the other.
     #[tactic(auto, unfolding(crate::specs::ByLine::lines_at))]
-    pub fn new(answer: Answer, table: &'a [u32], flows: &'a [u16], turns: &'a [u16]) -> Lines<'a>
-        ensures { lines_left result ≡ lines_of answer table.now flows.now turns.now }
+    pub fn new(output: Output<'a>) -> Lines<'a>
+        ensures { lines_left result ≡ lines_for output.entry }
     {
         let cursor = Cursor::First;
-        Lines {
-            cursor,
-            answer,
-            table,
-            flows,
-            turns,
-        }
+        Lines { cursor, output }
     }
 }
 
@@ -55,14 +45,7 @@ impl Iterator for Lines<'_> {
             return None;
         }
         let mut bytes = [0u8; LINE];
-        let piece = put_piece(
-            self.cursor,
-            self.answer,
-            self.table,
-            self.flows,
-            self.turns,
-            &mut bytes,
-        );
+        let piece = put_piece(self.cursor, self.output, &mut bytes);
         self.cursor = piece.next;
         Some(Line {
             bytes,

@@ -1,22 +1,11 @@
--- Laws of text written into a lent buffer: one byte, two words one after the other, and what stands in front in the end.
-use mathlib.Core.Path.{◌≡◌, refl, sym, ◌∙◌, ap}
-use mathlib.Core.List.{List, [], ◌∷◌, ◌++◌, append_assoc}
-use Prim.Native.Nat.{ℕ, ◌+◌, ◌≤◌, ◌<◌}
+-- Laws of text written into a lent buffer: two words one after the other, and what stands in front in the end.
+use mathlib.Core.Path.{◌≡◌, sym, ◌∙◌, ap}
+use mathlib.Core.List.{List, ◌++◌, append_assoc}
+use Prim.Native.Nat.{ℕ, ◌+◌, ◌≤◌}
 use native.Mathlib.Omega.{arith}
-use lib.ListN.{length, set, take, drop, length-append}
-use lib.Seq.{paste, paste-zero, paste-suc, take-paste, drop-paste, take-length, drop-drop}
+use lib.ListN.{length, take, drop, length-append}
+use lib.Seq.{take-paste, drop-paste, take-length, drop-drop}
 use Rattle.words.specs.Writer.{Put, in_front}
-
--- one byte stored
-pub put_one : (before : List ℕ) (at byte : ℕ) → at < length before → Put 1 before (set before at byte) at (byte ∷ []) (at + 1)
-put_one before at byte h = record {
-  place = refl;
-  size = omega arith;
-  text =
-      ap (λ (l : List ℕ). set l at byte) (paste-zero before at (byte ∷ []))
-      ∙ ap (λ (k : ℕ). set (paste before at (byte ∷ []) 0) k byte) (let k : at ≡ at + 0 = omega arith in k)
-      ∙ paste-suc before at (byte ∷ []) 0 0 (omega arith) (omega arith);
-}
 
 -- room for as many bytes is room for the word
 module _ (most₁ most₂ : ℕ) (before between after : List ℕ) (at : ℕ) (word₁ word₂ : List ℕ) (next₁ next₂ : ℕ) (room : at + (most₁ + most₂) ≤ length before)

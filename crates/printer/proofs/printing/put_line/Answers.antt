@@ -1,5 +1,5 @@
 -- `printer::printing::put_line` meets its contract: a word, its fields and a line feed, one after the other.
-use mathlib.Core.Path.{refl, sym, ◌∙◌, ap}
+use mathlib.Core.Path.{sym, ◌∙◌, ap}
 use mathlib.Core.List.{List, ◌++◌}
 use Prim.Native.Nat.{ℕ, ◌+◌, ◌*◌, ◌≤◌, ◌<◌}
 use native.Mathlib.Numerals.{add-one}
@@ -15,12 +15,6 @@ use Rattle.printer.specs.declared.printing.Field.{Field}
 use Rattle.printer.proofs.printing.put_line.Invariants.{Standing}
 use borrow.Author.Rules.{rules}
 use Rattle.printer.proofs.printing.put_line.Goals as goal
-
--- the word alone
-begins : (word : List ℕ) (fields : List Field) (before out : List ℕ) (next : ℕ)
-    → (length word ≤ 6) × (length fields ≤ 4) × (longest ≤ length before)
-    → Put (length word) before out 0 word next → Standing word fields before out 0 next
-begins word fields before out next h p = record { room = h; text = word; stands = put_within _ 6 _ _ _ _ _ h.0 p; rest = refl }
 
 module _ (word : List ℕ) (fields : List Field) (before out : List ℕ) (i next : ℕ) (s : Standing word fields before out i next) where
   -- one field more
@@ -46,9 +40,6 @@ module _ (word : List ℕ) (fields : List Field) (before out : List ℕ) (i next
   whole after end g h p =
       put_as _ _ _ _ _ _ _ (ap (line_of s.text) (sym (drop_all i fields h)) ∙ s.rest)
       (put_within _ longest _ _ _ _ _ (omega (arith, s.room)) (put_next (6 + 21 * i) 1 _ _ _ _ _ _ _ _ (omega (arith, s.room)) s.stands p))
-
-pub loop-field-init : goal.loop-field-init
-loop-field-init c = begins _ _ _ _ _ c.requires c.put_word-next.ensures
 
 pub loop-field-preserved : goal.loop-field-preserved
 loop-field-preserved c = onward _ _ _ _ _ _ c.loop-field.invariant _ _ _ c.loop-field-test.true c.put-next.ensures

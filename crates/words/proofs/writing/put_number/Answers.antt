@@ -5,11 +5,6 @@ use Rattle.digits.proofs.Decimals.{digits_are, digits_most}
 use Rattle.words.proofs.Putting.{put_as, put_within}
 use Rattle.words.proofs.writing.put_number.Goals as goal
 
-pub put_word-requires : goal.put_word-requires
-put_word-requires c =
-    let few = digits_most _ _ c.ranges.n.fits c.decimal-k.ensures.len in
-    omega (arith, few, c.decimal-k.ensures.in_bounds, c.requires)
-
 pub returns : goal.returns
 returns c =
     let few = digits_most _ _ c.ranges.n.fits c.decimal-k.ensures.len in

@@ -17,7 +17,9 @@ invariant_of-result c =
     record { fits = omega (arith, piece_fits _ _ _ _ _ _ _ _ c.put_piece-piece.ensures, c.put_piece-piece.auto.out) }
 
 pub returns-clause-steps : goal.returns-clause-steps
-returns-clause-steps c = line_next _ _ _ _ _ _ _ _ c.put_piece-piece.ensures (omega arith) (sym c.is_done.ensures ∙ c.if-is_done.false)
+returns-clause-steps c =
+    let first = line_next _ _ _ _ _ _ _ _ c.put_piece-piece.ensures (omega arith) (sym c.is_done.ensures ∙ c.if-is_done.false) in
+    search rules
 
 pub returns-clause-goes : goal.returns-clause-goes
 returns-clause-goes c =
