@@ -1,5 +1,5 @@
 -- The model as it is built: the flows up to a flow, and the packets up to a packet of a flow.
-use mathlib.Core.Path.{◌≡◌, sym, ◌∙◌, ap, ap₂}
+use mathlib.Core.Path.{◌≡◌, refl, sym, ◌∙◌, ap, ap₂}
 use mathlib.Core.List.{List, [], ◌∷◌, ◌++◌, append_assoc, append-nil}
 use Prim.Native.Nat.{ℕ, ◌+◌, ◌*◌, ◌/◌, ◌≤◌, ◌<◌}
 use native.Mathlib.Nat.{zero-add, suc-mul, mul-le-mul_right}
@@ -10,20 +10,30 @@ use Rattle.basics.specs.Lists.{tabulate}
 use Rattle.basics.specs.Sums.{sum_of}
 use Rattle.basics.proofs.Lists.{tabulate_length, tabulate_snoc}
 use Rattle.basics.proofs.Sums.{sum_part}
+use Rattle.routes.specs.Route.{path_of, route_of}
+use Rattle.routes.specs.declared.paths.Path.{Path}
 use Rattle.time.specs.Units.{turns_of}
 use Rattle.packet.specs.Packet.{Packet}
-use Rattle.model.specs.Flows.{period_of, flows_in}
+use Rattle.model.specs.Flows.{period_of, flow_of, flows_in, links_of_flow, occupancy_in}
+use Rattle.model.specs.declared.flows.Flow.{Flow}
 use Rattle.model.specs.Packets.{hyper_in, turns_in, packets_in, packet_of, packets_from, packets_of}
 use Rattle.model.specs.Fair.{Fair}
 use Rattle.model.specs.declared.flows.Mesh.{Mesh}
 use Rattle.model.proofs.InTime.{fair_timed, hyper_whole}
 use Rattle.model.proofs.Numbering.{packets_before, packets_grow}
-use Rattle.arrays.specs.Arrays.{Packable, no_flows, flows_up_to, arrays_of, model_of}
+use Rattle.arrays.specs.Arrays.{Packable, no_flows, entry_of_flow, flows_up_to, arrays_of, model_of}
 use Rattle.arrays.specs.declared.build.Flows.{Flows}
 use Rattle.arrays.specs.declared.build.Packets.{Packets}
 use Rattle.arrays.proofs.Filling.{with_one, one_more}
 
 -- ---- the flows
+
+-- a flow made of its five numbers, its occupancy and its route
+pub entry_is : (mesh : Mesh) (numbers : List ℕ) (f : ℕ) (flow : Flow) (occupancy : ℕ) (path : Path) → flow ≡ flow_of numbers f
+    → occupancy ≡ occupancy_in mesh numbers f → path ≡ path_of (route_of mesh.columns flow.source flow.target)
+    → record { period = flow.period; due = flow.due; occupancy = occupancy; path = path } ≡ entry_of_flow mesh numbers f
+unfolding entry_of_flow flow_of links_of_flow
+entry_is mesh numbers f flow occupancy path e o p = rw (p, o, e) refl
 
 -- where the flows stand before flow f
 pub record Listing (mesh : Mesh) (numbers : List ℕ) (flows : Flows) (f : ℕ) : Type 0 where

@@ -4,76 +4,44 @@ use mathlib.Core.List.{List, [], ◌∷◌, ◌++◌, map, map-append}
 use Prim.Native.Nat.{ℕ, ◌+◌, ◌<◌}
 use native.Mathlib.Omega.{arith}
 use lib.ListN.{length, set, length-append, length-map}
-use Rattle.basics.specs.Lists.{tabulate, padded}
+use Rattle.basics.specs.Lists.{padded}
 use Rattle.basics.proofs.Lists.{padded_push, padded_next}
-use Rattle.routes.specs.Route.{path_of}
-use Rattle.routes.specs.declared.paths.Path.{Path}
 use Rattle.packet.specs.Packet.{Packet}
-use Rattle.model.specs.Flows.{period_of, due_of, links_of_flow, occupancy_in}
-use Rattle.arrays.specs.Arrays.{flows_up_to, arrays_of}
+use Rattle.load.specs.Entries.{no_packet}
+use Rattle.load.specs.declared.entries.FlowEntry.{FlowEntry}
+use Rattle.load.specs.declared.entries.PacketEntry.{PacketEntry}
+use Rattle.arrays.specs.Arrays.{empty_flow, entry_of_flow, flows_up_to, entry_of_packet, arrays_of}
 use Rattle.model.specs.declared.flows.Mesh.{Mesh}
 use Rattle.arrays.specs.declared.build.Flows.{Flows}
 use Rattle.arrays.specs.declared.build.Packets.{Packets}
 
--- ---- flows
-
--- flows by their arrays
-filled : ℕ → List ℕ → List ℕ → List ℕ → List Path → Flows
-filled n p d o q = record { count = n; period = p; due = d; occupancy = o; path = q }
-
--- the flows with the numbers of the next one stored behind them are the flows up to it
-pub flow_next : (mesh : Mesh) (numbers : List ℕ) (flows : Flows) (f t d o : ℕ) (path : Path) → f < 64
-    → flows ≡ flows_up_to mesh numbers f
-    → t ≡ period_of numbers f → d ≡ due_of numbers f → o ≡ occupancy_in mesh numbers f
-    → path ≡ path_of (links_of_flow mesh numbers f)
-    → record {
-      count = f + 1;
-      period = set flows.period f t;
-      due = set flows.due f d;
-      occupancy = set flows.occupancy f o;
-      path = set flows.path f path;
-    } ≡ flows_up_to mesh numbers (f + 1)
-unfolding flows_up_to filled
-flow_next mesh numbers flows f t d o path h e et ed eo ep =
-    let p₁ = padded_next 64 0 (period_of numbers) f h (ap (λ (r : Flows). r.period) e) et in
-    let p₂ = padded_next 64 0 (due_of numbers) f h (ap (λ (r : Flows). r.due) e) ed in
-    let p₃ = padded_next 64 0 (occupancy_in mesh numbers) f h (ap (λ (r : Flows). r.occupancy) e) eo in
-    let p₄ = padded_next 64 (path_of []) (λ g. path_of (links_of_flow mesh numbers g)) f h (ap (λ (r : Flows). r.path) e) ep in
-    let f₁ = tabulate (period_of numbers) 0 (f + 1) in
-    let f₂ = tabulate (due_of numbers) 0 (f + 1) in
-    let f₃ = tabulate (occupancy_in mesh numbers) 0 (f + 1) in
-    ap (λ (l : List ℕ). filled (f + 1) l (set flows.due f d) (set flows.occupancy f o) (set flows.path f path)) p₁
-    ∙ ap (λ (l : List ℕ). filled (f + 1) (padded 64 0 f₁) l (set flows.occupancy f o) (set flows.path f path)) p₂
-    ∙ ap (λ (l : List ℕ). filled (f + 1) (padded 64 0 f₁) (padded 64 0 f₂) l (set flows.path f path)) p₃
-    ∙ ap (λ (l : List Path). filled (f + 1) (padded 64 0 f₁) (padded 64 0 f₂) (padded 64 0 f₃) l) p₄
+-- the flows with the next one stored behind them are the flows up to it
+pub flow_next : (mesh : Mesh) (numbers : List ℕ) (flows : Flows) (f : ℕ) (flow : FlowEntry) → f < 64
+    → flows ≡ flows_up_to mesh numbers f → flow ≡ entry_of_flow mesh numbers f
+    → record { count = f + 1; all = set flows.all f flow } ≡ flows_up_to mesh numbers (f + 1)
+unfolding flows_up_to
+flow_next mesh numbers flows f flow h e d =
+    let all : List FlowEntry → Flows = λ l. record { count = f + 1; all = l } in
+    ap all (padded_next 64 empty_flow (entry_of_flow mesh numbers) f h (ap (λ (r : Flows). r.all) e) d)
 
 -- ---- packets
 
--- packets by their arrays
-packed : ℕ → List ℕ → List ℕ → Packets
-packed n f r = record { count = n; flow = f; release = r }
-
--- one more entry of the packets' list is one more in an array made of it
-stored : (of : Packet → ℕ) (ps : List Packet) (p : Packet) → length ps < 1024
-    → set (padded 1024 0 (map of ps)) (length ps) (of p) ≡ padded 1024 0 (map of (ps ++ (p ∷ [])))
-stored of ps p h =
-    ap (λ (k : ℕ). set (padded 1024 0 (map of ps)) k (of p)) (sym (length-map ps of))
-    ∙ padded_push 1024 0 (map of ps) (of p) (omega (arith, length-map ps of))
-    ∙ ap (padded 1024 0) (sym (map-append of ps (p ∷ [])))
+-- one more entry of the packets' list is one more in the array made of it
+stored : (ps : List Packet) (p : Packet) → length ps < 1024
+    → set (padded 1024 no_packet (map entry_of_packet ps)) (length ps) (entry_of_packet p) ≡ padded 1024 no_packet (map entry_of_packet (ps ++ (p ∷ [])))
+stored ps p h =
+    ap (λ (k : ℕ). set (padded 1024 no_packet (map entry_of_packet ps)) k (entry_of_packet p)) (sym (length-map ps entry_of_packet))
+    ∙ padded_push 1024 no_packet (map entry_of_packet ps) (entry_of_packet p) (omega (arith, length-map ps entry_of_packet))
+    ∙ ap (padded 1024 no_packet) (sym (map-append entry_of_packet ps (p ∷ [])))
 
 -- the packets with one more
 abbrev pub with_one : Packets → ℕ → ℕ → Packets
-with_one packets flow release = record {
-  count = packets.count + 1;
-  flow = set packets.flow packets.count flow;
-  release = set packets.release packets.count release;
-}
+with_one packets flow release = record { count = packets.count + 1; all = set packets.all packets.count (record { flow = flow; release = release }) }
 
 -- a packet more in the list is one more in its arrays
 pub one_more : (ps : List Packet) (p : Packet) → length ps < 1024 → with_one (arrays_of ps) p.flow p.release ≡ arrays_of (ps ++ (p ∷ []))
-unfolding arrays_of packed
+unfolding arrays_of entry_of_packet
 one_more ps p h =
-    let f = padded 1024 0 (map (λ (q : Packet). q.flow) (ps ++ (p ∷ []))) in
-    ap (λ (l : List ℕ). packed (length ps + 1) l (set (padded 1024 0 (map (λ (q : Packet). q.release) ps)) (length ps) p.release)) (stored (λ (q : Packet). q.flow) ps p h)
-    ∙ ap (packed (length ps + 1) f) (stored (λ (q : Packet). q.release) ps p h)
-    ∙ ap (λ (n : ℕ). packed n f (padded 1024 0 (map (λ (q : Packet). q.release) (ps ++ (p ∷ []))))) (sym (length-append ps (p ∷ [])))
+    let packed : ℕ → List PacketEntry → Packets = λ n l. record { count = n; all = l } in
+    ap (packed (length ps + 1)) (stored ps p h)
+    ∙ ap (λ (n : ℕ). packed n (padded 1024 no_packet (map entry_of_packet (ps ++ (p ∷ []))))) (sym (length-append ps (p ∷ [])))

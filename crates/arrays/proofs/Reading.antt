@@ -4,7 +4,7 @@ use mathlib.Core.List.{List}
 use Prim.Native.Nat.{ℕ, ◌+◌, ◌/◌, ◌<◌}
 use native.Mathlib.Nat.{zero-add, mul-div_cancel}
 use native.Mathlib.Omega.{arith}
-use lib.ListN.{length, get_or}
+use lib.ListN.{length}
 use lib.Seq.{ext_get_or}
 use Rattle.basics.proofs.Lists.{tabulate_length, tabulate_at}
 use Rattle.routes.specs.Route.{path_of, links_of}
@@ -12,10 +12,11 @@ use Rattle.routes.specs.declared.paths.Path.{Path}
 use Rattle.packet.specs.Packet.{absent}
 use Rattle.packet.specs.Table.{packet_at}
 use Rattle.packet.proofs.Packet.{packet_same}
+use Rattle.load.specs.Entries.{nth_flow, nth_packet}
 use Rattle.model.specs.Flows.{period_of, flows_in}
 use Rattle.model.specs.Packets.{packets_in, packets_of}
 use Rattle.model.specs.Fair.{Fair}
-use Rattle.arrays.specs.Arrays.{flows_up_to, arrays_of, model_of, no_path, packet_in, packets_read, InBounds}
+use Rattle.arrays.specs.Arrays.{flows_up_to, arrays_of, model_of, packet_in, packets_read, InBounds}
 use Rattle.model.specs.declared.flows.Mesh.{Mesh}
 use Rattle.arrays.specs.declared.build.Model.{Model}
 use Rattle.model.proofs.Numbering.{packets_length}
@@ -50,14 +51,14 @@ module _ (mesh : Mesh) (numbers : List ℕ) (fair : Fair mesh numbers) where
       let ef = flow_entry mesh numbers p h in
       let er = release_entry mesh numbers p h in
       let flows = flows_up_to mesh numbers (flows_in numbers) in
-      let at : ℕ = get_or (arrays_of (packets_of mesh numbers)).flow p 0 in
-      let period : get_or flows.period at 0 ≡ period_of numbers q.flow = ap (λ (f : ℕ). get_or flows.period f 0) ef ∙ period_entry mesh numbers q.flow t.flow_in in
+      let at : ℕ = (nth_packet (arrays_of (packets_of mesh numbers)).all p).flow in
+      let period : (nth_flow flows.all at).period ≡ period_of numbers q.flow = ap (λ (f : ℕ). (nth_flow flows.all f).period) ef ∙ period_entry mesh numbers q.flow t.flow_in in
       packet_same (packet_in (model_of mesh numbers).flows (model_of mesh numbers).packets p) q ef
       (ap₂ ◌/◌ er period ∙ ap (λ (n : ℕ). n / period_of numbers q.flow) t.released ∙ mul-div_cancel q.turn (fair.flows q.flow t.flow_in).times.period_low)
       er
-      (ap₂ ◌+◌ er (ap (λ (f : ℕ). get_or flows.due f 0) ef ∙ due_entry mesh numbers q.flow t.flow_in) ∙ sym t.due)
-      (ap (λ (f : ℕ). get_or flows.occupancy f 0) ef ∙ occupancy_entry mesh numbers q.flow t.flow_in ∙ sym t.holding)
-      (ap (λ (f : ℕ). links_of (get_or flows.path f no_path)) ef ∙ links_entry mesh numbers q.flow t.flow_in no_path ∙ sym t.along)
+      (ap₂ ◌+◌ er (ap (λ (f : ℕ). (nth_flow flows.all f).due) ef ∙ due_entry mesh numbers q.flow t.flow_in) ∙ sym t.due)
+      (ap (λ (f : ℕ). (nth_flow flows.all f).occupancy) ef ∙ occupancy_entry mesh numbers q.flow t.flow_in ∙ sym t.holding)
+      (ap (λ (f : ℕ). links_of (nth_flow flows.all f).path) ef ∙ links_entry mesh numbers q.flow t.flow_in ∙ sym t.along)
 
   -- so all packets of the arrays are those of the model
   pub packets_read_lem : packets_read (model_of mesh numbers) ≡ packets_of mesh numbers
@@ -69,13 +70,13 @@ module _ (mesh : Mesh) (numbers : List ℕ) (fair : Fair mesh numbers) where
 
   -- the path of packet p in the arrays lists its links
   pub path_in_lem : (p : ℕ) → p < packets_in numbers
-      → (get_or (model_of mesh numbers).flows.path (get_or (model_of mesh numbers).packets.flow p 0) no_path).len ≡ length (packet_at (packets_of mesh numbers) p).path
+      → (nth_flow (model_of mesh numbers).flows.all (nth_packet (model_of mesh numbers).packets.all p).flow).path.len ≡ length (packet_at (packets_of mesh numbers) p).path
   unfolding model_of path_of
   path_in_lem p h =
       let q = packet_at (packets_of mesh numbers) p in
       let t = packets_in_time mesh numbers fair p h in
-      ap (λ (f : ℕ). (get_or (flows_up_to mesh numbers (flows_in numbers)).path f no_path).len) (flow_entry mesh numbers p h)
-      ∙ ap (λ (r : Path). r.len) (path_entry mesh numbers q.flow t.flow_in no_path)
+      ap (λ (f : ℕ). (nth_flow (flows_up_to mesh numbers (flows_in numbers)).all f).path.len) (flow_entry mesh numbers p h)
+      ∙ ap (λ (r : Path). r.len) (path_entry mesh numbers q.flow t.flow_in)
       ∙ ap length (sym t.along)
 
   -- the model is what the code over its arrays asks
@@ -93,5 +94,5 @@ module _ (mesh : Mesh) (numbers : List ℕ) (fair : Fair mesh numbers) where
         short = λ p h. omega (arith, path_in_lem p (below p h), (packets_in_time mesh numbers fair p (below p h)).path_small);
       }
     where
-      flow_read : (p : ℕ) → InTime mesh numbers (packet_in (model_of mesh numbers).flows (model_of mesh numbers).packets p) → get_or (model_of mesh numbers).packets.flow p 0 < 64
+      flow_read : (p : ℕ) → InTime mesh numbers (packet_in (model_of mesh numbers).flows (model_of mesh numbers).packets p) → (nth_packet (model_of mesh numbers).packets.all p).flow < 64
       flow_read p t = unfold packet_in in t.flow_small

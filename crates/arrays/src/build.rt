@@ -4,27 +4,33 @@ ghost use Rattle.model.specs.Flows.{flows_in};
 ghost use Rattle.model.specs.Packets.{packets_of};
 ghost use Rattle.model.specs.Fair.{Fair};
 ghost use Rattle.model.specs.declared.flows.Mesh.{Mesh};
-ghost use Rattle.arrays.specs.Arrays.{Packable, no_flows, flows_up_to, arrays_of, model_of};
+ghost use Rattle.arrays.specs.Arrays.{Packable, no_flows, flows_up_to, flow_numbers, arrays_of, model_of};
 
+use load::{FlowEntry, PacketEntry};
 use model::{Mesh, PER_FLOW, flow_of, hyper_in, occupancy_of};
 use routes::{Path, route};
 
-// The flows: period, deadline, occupancy and path of each of the first count; what follows them is 0.
+// The flows: the first count of all; what follows them is 0.
 #[derive(Clone, Copy)]
 pub struct Flows {
     pub count: usize,
-    pub period: [u32; 64],
-    pub due: [u32; 64],
-    pub occupancy: [u32; 64],
-    pub path: [Path; 64],
+    pub all: [FlowEntry; 64],
 }
 
-// The packets of one hyper-period: flow and release of each of the first count; what follows them is 0.
+// The packets of one hyper-period: the first count of all; what follows them is 0.
 #[derive(Clone, Copy)]
 pub struct Packets {
     pub count: usize,
-    pub flow: [u16; 1024],
-    pub release: [u32; 1024],
+    pub all: [PacketEntry; 1024],
+}
+
+impl Packets {
+    // The number of each packet's flow.
+    pub fn flow_numbers(&self) -> [u16; 1024]
+        ensures { result ≡ flow_numbers self.now.all }
+    {
+        self.all.map(|packet| packet.flow)
+    }
 }
 
 // A model that is not refused: its hyper-period, its flows and its packets.
@@ -43,12 +49,15 @@ fn no_flows() -> Flows
         links: [0; 32],
         len: 0,
     };
+    let empty = FlowEntry {
+        period: 0,
+        due: 0,
+        occupancy: 0,
+        path: none,
+    };
     Flows {
         count: 0,
-        period: [0; 64],
-        due: [0; 64],
-        occupancy: [0; 64],
-        path: [none; 64],
+        all: [empty; 64],
     }
 }
 
@@ -56,10 +65,13 @@ fn no_flows() -> Flows
 fn no_packets() -> Packets
     ensures { result ≡ arrays_of [] }
 {
+    let empty = PacketEntry {
+        flow: 0,
+        release: 0,
+    };
     Packets {
         count: 0,
-        flow: [0; 1024],
-        release: [0; 1024],
+        all: [empty; 1024],
     }
 }
 
@@ -72,14 +84,16 @@ fn flows_of(mesh: Mesh, numbers: &[u32]) -> Flows
     let n = numbers.len() / PER_FLOW;
     for f in 0..n {
         let flow = flow_of(numbers, f);
-        flows.period[f] = flow.period;
-        flows.due[f] = flow.due;
-        flows.occupancy[f] = occupancy_of(mesh, numbers, f).0;
-        flows.path[f] = route(
-            mesh.columns as usize,
-            flow.source as usize,
-            flow.target as usize,
-        );
+        flows.all[f] = FlowEntry {
+            period: flow.period,
+            due: flow.due,
+            occupancy: occupancy_of(mesh, numbers, f).0,
+            path: route(
+                mesh.columns as usize,
+                flow.source as usize,
+                flow.target as usize,
+            ),
+        };
         flows.count = f + 1;
     }
     flows
@@ -97,8 +111,10 @@ fn packets_of(numbers: &[u32], hyper: u32) -> Packets
         let turns = hyper / period;
         for k in 0..turns {
             let at = packets.count;
-            packets.flow[at] = f as u16;
-            packets.release[at] = k * period;
+            packets.all[at] = PacketEntry {
+                flow: f as u16,
+                release: k * period,
+            };
             packets.count = at + 1;
         }
     }

@@ -19,14 +19,15 @@ use Rattle.marks.specs.Marks.{has_mark}
 use Rattle.gaps.specs.Gaps.{flow_of, slots_to, placed_in, Sweep}
 use Rattle.gaps.specs.Sweeps.{time_past, EndAhead, Back}
 use Rattle.gaps.specs.declared.gap.Placed.TheVariants.{At, Nowhere}
+use Rattle.load.specs.Entries.{nth_flow, nth_packet}
 use Rattle.gaps.proofs.Sweeping.{Sweeping, sweep_jump, sweep_apart, sweep_clear, sweep_early, sweep_none}
 
 -- the placed packet that comes k-th is a packet of a flow, and its start and occupancy are small
 pub record Next (traffic : Traffic) (taken : Taken) (k : ℕ) : Type 0 where
   pub number : get_or taken.by k 0 < 1024
   pub soon : get_or taken.times (get_or taken.by k 0) 0 ≤ most
-  pub flow : get_or traffic.flow (get_or taken.by k 0) 0 < 64
-  pub span : get_or traffic.occupancy (get_or traffic.flow (get_or taken.by k 0) 0) 0 ≤ most
+  pub flow : (nth_packet traffic.packets (get_or taken.by k 0)).flow < 64
+  pub span : (nth_flow traffic.flows (nth_packet traffic.packets (get_or taken.by k 0)).flow).occupancy ≤ most
 
 -- so are all
 pub next_is : {traffic : Traffic} {marks : List (Option ℕ)} {taken : Taken} {g f begin latest from at : ℕ}
@@ -72,7 +73,7 @@ module _ {traffic : Traffic} {marks : List (Option ℕ)} {taken : Taken} {g f be
 -- at a time: what the sweep asks, and how far it is
 pub record AtTime (traffic : Traffic) (marks : List (Option ℕ)) (taken : Taken) (g f begin latest from at span j t : ℕ) : Type 0 where
   pub asks : Sweep traffic marks taken g f begin latest from at
-  pub span_is : span ≡ get_or traffic.occupancy g 0
+  pub span_is : span ≡ (nth_flow traffic.flows g).occupancy
   pub small_span : span ≤ most
   pub swept : Sweeping traffic taken g f begin j t
   pub after : begin ≤ t
@@ -80,7 +81,7 @@ pub record AtTime (traffic : Traffic) (marks : List (Option ℕ)) (taken : Taken
 -- at a placed packet: besides, the time is not past the latest, and the sweep does not go back
 pub record AtPacket (traffic : Traffic) (marks : List (Option ℕ)) (taken : Taken) (g f begin latest from at span j₀ j t : ℕ) : Type 0 where
   pub asks : Sweep traffic marks taken g f begin latest from at
-  pub span_is : span ≡ get_or traffic.occupancy g 0
+  pub span_is : span ≡ (nth_flow traffic.flows g).occupancy
   pub small_span : span ≤ most
   pub swept : Sweeping traffic taken g f begin j t
   pub after : begin ≤ t

@@ -67,7 +67,7 @@ pub record Resumes (traffic : Traffic) (taken : Taken) (g f begin from : ℕ) : 
 -- what a sweep asks: settings and times in their ranges, and that what lies before its first packet is over when it begins
 pub record Sweep (traffic : Traffic) (marks : List (Option ℕ)) (taken : Taken) (g f begin latest from at : ℕ) : Type 0 where
   pub loaded : Loaded traffic
-  pub marked : Marked traffic.paths marks g
+  pub marked : Marked traffic.flows marks g
   pub kept : Kept taken
   pub flow : g < 64
   pub lasting : 0 < span_of traffic g

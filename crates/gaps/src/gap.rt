@@ -84,7 +84,7 @@ pub fn gap_for(
     requires { Seeks traffic.now marks.now taken.now sought.now }
     ensures { result ≡ gap_for traffic.now taken.now sought.now }
 {
-    let span = traffic.occupancy[sought.own];
+    let span = traffic.flows[sought.own].occupancy;
     let mut j = sought.at;
     let mut t = sought.from;
     'times: loop {
@@ -102,8 +102,8 @@ pub fn gap_for(
             if t + span <= start {
                 break;
             }
-            let other = traffic.flow[q] as usize;
-            let end = start + traffic.occupancy[other];
+            let other = traffic.packets[q].flow as usize;
+            let end = start + traffic.flows[other].occupancy;
             j += 1;
             if end <= t {
                 continue;

@@ -10,11 +10,12 @@ pub fn slacks(model: Model) -> [u64; 64]
     ensures { result ≡ slacks_of model }
 {
     let n = model.flows.count;
-    let due = model.flows.due;
-    let occupancy = model.flows.occupancy;
+    let flows = model.flows.all;
     let mut key = [0u64; 64];
     for (g, slack) in key[..n].iter_mut().enumerate() {
-        *slack = u64::from(due[g] - occupancy[g]);
+        let flow = &flows[g];
+        let due = flow.due;
+        *slack = u64::from(due - flow.occupancy);
     }
     key
 }

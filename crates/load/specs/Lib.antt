@@ -1,2 +1,3 @@
 -- What packets hold, as the search has it in arrays.
+pub mod Entries
 pub mod Load

@@ -2,19 +2,16 @@
 ghost use Rattle.std.specs.Prelude.{◌≡◌, ◌<◌};
 ghost use Rattle.load.specs.Load.{path_for, Paths};
 
-use routes::Path;
+use crate::entries::{FlowEntry, PacketEntry};
 
-// The packets, with the flow and the release of each of the first count; the flows, with occupancy, D and path of each, and how many
-// packets before each of its own a twin may stand, if there is one; and the longest occupancy. What follows them is 0.
+// The packets, the first count of them; the flows, and how many packets before each of its own a flow's twin may stand, if there is one;
+// and the longest occupancy. What follows them is 0.
 #[derive(Clone, Copy)]
 pub struct Traffic {
     pub count: usize,
-    pub flow: [u16; 1024],
-    pub release: [u32; 1024],
-    pub occupancy: [u32; 64],
-    pub due: [u32; 64],
+    pub packets: [PacketEntry; 1024],
+    pub flows: [FlowEntry; 64],
     pub longest: u32,
-    pub paths: [Path; 64],
     pub back: [Option<usize>; 64],
 }
 
@@ -22,10 +19,10 @@ impl Traffic {
     // The links of a flow's path.
     #[tactic(auto, unfolding(crate::specs::Load::path_in, routes::specs::Route::links_of))]
     pub fn path(&self, g: usize) -> &[u16]
-        requires { (g < 64) × Paths self.now.paths }
+        requires { (g < 64) × Paths self.now.flows }
         ensures { result.now ≡ path_for self.now g }
     {
-        let path = &self.paths[g];
+        let path = &self.flows[g].path;
         &path.links[..path.len]
     }
 }

@@ -16,7 +16,7 @@ use borrow.Author.Tests.{eqb-true, eq-eqb}
 use Rattle.basics.proofs.Choose.{same_test}
 use Rattle.basics.proofs.Lists.{fill_at}
 use Rattle.routes.specs.Share.{has}
-use Rattle.routes.specs.declared.paths.Path.{Path}
+use Rattle.load.specs.declared.entries.FlowEntry.{FlowEntry}
 use Rattle.routes.proofs.Common.{has_at, has_place}
 use Rattle.mesh.specs.Link.{all_links}
 use Rattle.load.specs.Load.{path_in, Paths}
@@ -24,8 +24,8 @@ use Rattle.load.proofs.Paths.{path_number}
 use Rattle.marks.specs.Marks.{stamped, has_mark, Honest, Marked}
 
 -- at first no mark is made
-pub honest_start : (paths : List Path) {marks : List (Option ℕ)} → marks ≡ replicate all_links None → Honest paths marks
-honest_start paths {marks} e = record {
+pub honest_start : (flows : List FlowEntry) {marks : List (Option ℕ)} → marks ≡ replicate all_links None → Honest flows marks
+honest_start flows {marks} e = record {
   long = ap length e ∙ length-replicate {A = Option ℕ} all_links None;
   tells = λ g link h m. let none : get_or marks link None ≡ None = ap (λ (xs : List (Option ℕ)). get_or xs link None) e ∙ fill_at {X = Option ℕ} None all_links link in absurd (none-some g (sym none ∙ m));
 }
@@ -63,14 +63,14 @@ module _ (path : List ℕ) (g : ℕ) (marks : List (Option ℕ)) (numbers : (a :
             ∙ stamped_made n a (omega arith) (omega (arith, other))
       ]
 
-module _ {paths : List Path} (marks : List (Option ℕ)) (good : Paths paths) (g : ℕ) (flow : g < 64) (honest : Honest paths marks) where
+module _ {flows : List FlowEntry} (marks : List (Option ℕ)) (good : Paths flows) (g : ℕ) (flow : g < 64) (honest : Honest flows marks) where
   -- its path
   abbrev own : List ℕ
-  own = path_in paths g
+  own = path_in flows g
 
   -- a mark that is made is that of a link of the path
   stamped_tells : (n : ℕ) → n ≤ length own → (h link : ℕ) → h < 64 → get_or (stamped own g n marks) link None ≡ Some h
-      → has (path_in paths h) link ≡ true
+      → has (path_in flows h) link ≡ true
   unfolding stamped
   stamped_tells zero l h link k e = honest.tells h link k e
   stamped_tells (suc n) l h link k e =
@@ -88,14 +88,14 @@ module _ {paths : List Path} (marks : List (Option ℕ)) (good : Paths paths) (g
       ]
 
   -- no mark lies afterwards
-  pub honest_stamped : Honest paths (stamped own g (length own) marks)
+  pub honest_stamped : Honest flows (stamped own g (length own) marks)
   honest_stamped = record {
     long = stamped_length own g marks (path_number good g flow) honest.long (length own);
     tells = stamped_tells (length own) (omega arith);
   }
 
   -- and those of the path are exact
-  pub marked_stamped : Marked paths (stamped own g (length own) marks) g
+  pub marked_stamped : Marked flows (stamped own g (length own) marks) g
   unfolding has_mark
   marked_stamped = record {
     exact = λ link.

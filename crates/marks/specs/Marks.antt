@@ -2,7 +2,7 @@
 use Rattle.std.specs.Prelude.{◌≡◌, Bool, true, List, Option, None, Some, ℕ, zero, suc, ◌<◌, eqb, length, get_or, set}
 use Rattle.std.specs.Option.{option_eq}
 use Rattle.routes.specs.Share.{has}
-use Rattle.routes.specs.declared.paths.Path.{Path}
+use Rattle.load.specs.declared.entries.FlowEntry.{FlowEntry}
 use Rattle.mesh.specs.Link.{all_links}
 use Rattle.load.specs.Load.{path_in}
 
@@ -16,10 +16,10 @@ unfoldable pub has_mark : List (Option ℕ) → ℕ → ℕ → Bool
 has_mark marks g link = option_eq eqb (get_or marks link None) (Some g)
 
 -- no mark lies: a link with the mark of a flow is on its path
-pub record Honest (paths : List Path) (marks : List (Option ℕ)) : Type 0 where
+pub record Honest (flows : List FlowEntry) (marks : List (Option ℕ)) : Type 0 where
   pub long : length marks ≡ all_links
-  pub tells : (g link : ℕ) → g < 64 → get_or marks link None ≡ Some g → has (path_in paths g) link ≡ true
+  pub tells : (g link : ℕ) → g < 64 → get_or marks link None ≡ Some g → has (path_in flows g) link ≡ true
 
 -- a link has the mark of flow g exactly where it is on its path
-pub record Marked (paths : List Path) (marks : List (Option ℕ)) (g : ℕ) : Type 0 where
-  pub exact : (link : ℕ) → has_mark marks g link ≡ has (path_in paths g) link
+pub record Marked (flows : List FlowEntry) (marks : List (Option ℕ)) (g : ℕ) : Type 0 where
+  pub exact : (link : ℕ) → has_mark marks g link ≡ has (path_in flows g) link

@@ -24,7 +24,7 @@ fn window_of(flows: &Flows, packets: &Packets, table: &[u32], p: usize) -> Windo
 {
     Window {
         start: Cycles(table[p]),
-        span: Cycles(flows.occupancy[packets.flow[p] as usize]),
+        span: Cycles(packets.all[p].flow_among(&flows.all).occupancy),
     }
 }
 
@@ -33,12 +33,12 @@ fn meets(flows: &Flows, packets: &Packets, table: &[u32], a: usize, b: usize) ->
     requires { Timely flows.now packets.now table.now × (a < b) × (b < packets.now.count) }
     ensures { result ≡ meets_in flows.now packets.now table.now a b }
 {
-    let f = packets.flow[a] as usize;
-    let g = packets.flow[b] as usize;
+    let f = packets.all[a].flow_among(&flows.all);
+    let g = packets.all[b].flow_among(&flows.all);
     overlap(
         window_of(flows, packets, table, a),
         window_of(flows, packets, table, b),
-    ) && share(flows.path[f], flows.path[g])
+    ) && share(f.path, g.path)
 }
 
 // The lowest packet above a that a collides with, or none.

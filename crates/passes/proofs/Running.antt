@@ -41,7 +41,7 @@ take_replicate (suc n) (suc m) x h = ap (λ (l : List ℕ). x ∷ l) (take_repli
 -- what a pass knows as it goes: it leaves what the definition says, and no mark lies
 pub record Running (t : Traffic) (f g : ℕ) (start : State) (marks : List (Option ℕ)) (s : Stand) : Type 0 where
   pub ready : Ready t f g
-  pub honest : Honest t.paths marks
+  pub honest : Honest t.flows marks
   pub going : Going (packets_held t) f g s
   pub same : outcome (packets_held t) f g s ≡ pass_over (packets_held t) f g (list_of (length (packets_held t)) start) (fails_of (length (packets_held t)) start)
 
@@ -61,7 +61,7 @@ running_start {t} {f} {g} {start} runs {taken} is unmarked =
     λ q h. false≢true (sym (ap (λ (t : List ℕ). placed t q) table ∙ nothing_placed (length (packets_held t)) q) ∙ h) in
     record {
       ready = runs.ready;
-      honest = honest_start t.paths unmarked;
+      honest = honest_start t.flows unmarked;
       going = record {
         carried = runs.carried;
         low = omega arith;
@@ -100,7 +100,7 @@ module _ {t : Traffic} {f g : ℕ} {start : State} {marks : List (Option ℕ)} {
     next_small = omega (arith, next_in_lem run.ready run.going more, (held_in t run.ready.few).few)
 
     -- no mark lies once those of the next packet's path are made
-    marked_more : {after : List (Option ℕ)} → after ≡ stamped_for t (next_of s) marks → Honest t.paths after
+    marked_more : {after : List (Option ℕ)} → after ≡ stamped_for t (next_of s) marks → Honest t.flows after
     marked_more e =
         rw e (honest_stamped marks run.ready.loaded.paths (flow_at t (next_of s))
         (run.ready.loaded.flows (next_of s) next_small) run.honest)

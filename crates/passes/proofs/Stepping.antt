@@ -37,6 +37,7 @@ use Rattle.passes.specs.Pass.{pass_from}
 use Rattle.passes.specs.Stand.{fails_of, list_of, Stand, stand_of, outcome, Ready, Tight, Going}
 use Rattle.passes.proofs.Tightening.{tight_other, tight_new}
 use Rattle.passes.proofs.Parts.{rest_next, taken_more, list_occurs}
+use Rattle.load.specs.Load.{release_at}
 use Rattle.passes.proofs.PassSteps.{pass_placed, TimeTaken, placing_at, slots_few, time_latest}
 
 -- the next packet
@@ -81,13 +82,13 @@ module _ {t : Traffic} {f g : ℕ} (ready : Ready t f g) {s : Stand} (going : Go
         i = tight.i;
         grid = sym place ∙ tight.grid ∙ ap (λ (r : ℕ). r + tight.i * f) (held.releases q h);
         tight = λ m l.
-            sym (ways_same held going.listed h (get_or t.release q 0 + m * f))
+            sym (ways_same held going.listed h (release_at t q + m * f))
             ∙ ap (λ (r : ℕ). some (in_the_way ps (take (length ps) s.taken.times) q (r + m * f)) (length ps)) (sym (held.releases q h))
             ∙ not-false _ (tight.taken m l);
       }
 
   -- what placing it asks
-  pub place_asks : {marks : List (Option ℕ)} → Honest t.paths marks → Placeable t s.taken marks f (next_of s)
+  pub place_asks : {marks : List (Option ℕ)} → Honest t.flows marks → Placeable t s.taken marks f (next_of s)
   place_asks honest = record {
     loaded = ready.loaded;
     honest = honest;

@@ -5,7 +5,7 @@ use Rattle.hyperperiod.specs.Hyper.{most}
 use Rattle.packet.specs.Packet.{Packet}
 use Rattle.packet.specs.Table.{packet_at, time_at, placed}
 use Rattle.order.specs.Order.{occurs}
-use Rattle.load.specs.Load.{flow_at, span_of, path_for, Loaded}
+use Rattle.load.specs.Load.{flow_at, span_of, path_for, Loaded, due_at, release_at}
 use Rattle.kept.specs.Kept.{Kept, Roster}
 use Rattle.kept.specs.declared.finding.Taken.{Taken}
 use Rattle.placing.specs.Placing.{free}
@@ -49,8 +49,8 @@ pub record Ready (t : Traffic) (f g : ℕ) : Type 0 where
   pub high : g ≤ 16
   pub lasting : (p : ℕ) → p < t.count → 0 < span_of t (flow_at t p)
   pub some_links : (p : ℕ) → p < t.count → 0 < length (path_for t (flow_at t p))
-  pub fits : (p : ℕ) → p < t.count → span_of t (flow_at t p) ≤ get_or t.due (flow_at t p) 0
-  pub ends : (p : ℕ) → p < t.count → get_or t.release p 0 + get_or t.due (flow_at t p) 0 ≤ most
+  pub fits : (p : ℕ) → p < t.count → span_of t (flow_at t p) ≤ due_at t (flow_at t p)
+  pub ends : (p : ℕ) → p < t.count → release_at t p + due_at t (flow_at t p) ≤ most
   pub longest_of : (h : ℕ) → h < 64 → span_of t h ≤ t.longest
 
 -- what is carried over the passes: the list holds packets, each at most once, with fail counts below G

@@ -5,7 +5,7 @@ use mathlib.Core.List.{List}
 use Prim.Native.Nat.{ℕ, ◌+◌, ◌-◌, ◌≤◌, ◌<◌}
 use native.Mathlib.Omega.{arith}
 use lib.ListN.{length, get_or}
-use Rattle.load.specs.Load.{flow_at}
+use Rattle.load.specs.Load.{flow_at, release_at}
 use Rattle.load.specs.declared.traffic.Traffic.{Traffic}
 use Rattle.kept.specs.Kept.{start_of, spot_of}
 use Rattle.kept.specs.declared.finding.Taken.{Taken}
@@ -56,12 +56,12 @@ module _ {traffic : Traffic} {taken : Taken} {marks : List (Option ℕ)} {f p : 
 
   pub sweep_asks : {from : ℕ} → from ≡ resume_at traffic taken f p → {at : ℕ} → Over taken from traffic.longest at
       → {marked : List (Option ℕ)} → marked ≡ stamped_for traffic p marks
-      → Sweep traffic marked taken (flow_at traffic p) f (get_or traffic.release p 0) (latest_at traffic p) from at
+      → Sweep traffic marked taken (flow_at traffic p) f (release_at traffic p) (latest_at traffic p) from at
   unfolding latest_at flow_of
   sweep_asks {from} here over e = record {
     loaded = asks.loaded;
     marked =
-        subst (λ (m : List (Option ℕ)). Marked traffic.paths m (flow_at traffic p)) (sym e)
+        subst (λ (m : List (Option ℕ)). Marked traffic.flows m (flow_at traffic p)) (sym e)
         (marked_stamped marks asks.loaded.paths (flow_at traffic p) own_flow asks.honest);
     kept = asks.kept;
     flow = own_flow;
@@ -72,7 +72,7 @@ module _ {traffic : Traffic} {taken : Taken} {marks : List (Option ℕ)} {f p : 
     soon = omega (arith, asks.ends);
     within = over.within;
     resumes =
-        subst (Resumes traffic taken (flow_at traffic p) f (get_or traffic.release p 0)) (sym here)
+        subst (Resumes traffic taken (flow_at traffic p) f (release_at traffic p)) (sym here)
         (resumes resume_asks (omega (arith, asks.ends)) asks.some_links asks.stood);
     over = λ j h.
         let inside : flow_at traffic (get_or taken.by j 0) < 64 = asks.loaded.flows _ (asks.kept.listed j (omega (arith, over.within))) in

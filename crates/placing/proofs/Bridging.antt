@@ -19,7 +19,7 @@ use Rattle.time.specs.Units.{latest_of}
 use Rattle.time.specs.Window.{overlaps}
 use Rattle.packet.specs.Packet.{Packet, absent, collide}
 use Rattle.packet.specs.Table.{packet_at, time_at, placed}
-use Rattle.load.specs.Load.{flow_at, span_of}
+use Rattle.load.specs.Load.{flow_at, span_of, due_at, release_at}
 use Rattle.kept.specs.Kept.{start_of, spot_of, Roster}
 use Rattle.kept.specs.declared.finding.Taken.{Taken}
 use Rattle.gaps.specs.Gaps.{flow_of, hits, slots_to, first_gap, gap_at, placed_in, spot_in, gap_in}
@@ -71,22 +71,22 @@ module _ {ps : List Packet} {traffic : Traffic} {taken : Taken} (held : Held ps 
           some_at _ (length ps) (get_or taken.by j 0) (listed.inside j l) (both_pass _ _ (listed.timed j l) (sym (hits_is s j l) ∙ w))
 
   -- the times from the release on are the same
-  times_same : (f i : ℕ) → time_of f (packet_at ps p) i ≡ get_or traffic.release p 0 + i * f
+  times_same : (f i : ℕ) → time_of f (packet_at ps p) i ≡ release_at traffic p + i * f
   unfolding time_of
   times_same f i = ap (λ (n : ℕ). n + i * f) (held.releases p h)
 
   -- and so many of them
-  slots_same : (f : ℕ) → slots_to f (get_or traffic.release p 0) (latest_at traffic p) ≡ slots_of f (packet_at ps p)
+  slots_same : (f : ℕ) → slots_to f (release_at traffic p) (latest_at traffic p) ≡ slots_of f (packet_at ps p)
   unfolding slots_to slots_of latest_of latest_at
   slots_same f =
-      let e : get_or traffic.release p 0 + get_or traffic.due (flow_at traffic p) 0 - span_of traffic (flow_at traffic p) - get_or traffic.release p 0
+      let e : release_at traffic p + due_at traffic (flow_at traffic p) - span_of traffic (flow_at traffic p) - release_at traffic p
       ≡ (packet_at ps p).deadline - (packet_at ps p).occupancy - (packet_at ps p).release =
       omega (arith, held.releases p h, held.deadlines p h, held.spans p h) in
       ap (λ (n : ℕ). n / f + 1) e
 
   -- the first gap is the taken time
   taken_same : (f slots : ℕ) → slots ≡ slots_of f (packet_at ps p)
-      → taken_of ps f table p ≡ first_gap traffic taken (flow_at traffic p) f (get_or traffic.release p 0) slots
+      → taken_of ps f table p ≡ first_gap traffic taken (flow_at traffic p) f (release_at traffic p) slots
   unfolding taken_of first_gap free
   taken_same f slots e =
       ap₂ first
@@ -98,7 +98,7 @@ module _ {ps : List Packet} {traffic : Traffic} {taken : Taken} (held : Held ps 
   unfolding place_in gap_in placed_in placing_of placed_by gap_at time_of
   placing_same f =
       let s = slots_same f in
-      let t = taken_same f (slots_to f (get_or traffic.release p 0) (latest_at traffic p)) s in
+      let t = taken_same f (slots_to f (release_at traffic p) (latest_at traffic p)) s in
       sym (rw (t, sym s, held.releases p h) refl)
 
   -- where it goes to a time, it is put in before the first that starts after it

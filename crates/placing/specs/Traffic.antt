@@ -2,7 +2,7 @@
 use Rattle.std.specs.Prelude.{List, ℕ, ◌+◌, get_or}
 use Rattle.basics.specs.Lists.{tabulate}
 use Rattle.packet.specs.Packet.{Packet}
-use Rattle.load.specs.Load.{flow_at, span_of, path_for}
+use Rattle.load.specs.Load.{flow_at, span_of, path_for, due_at, release_at}
 use Rattle.load.specs.declared.traffic.Traffic.{Traffic}
 
 -- packet p, read off the arrays; the search does not know of turns
@@ -10,8 +10,8 @@ unfoldable pub packet_held : Traffic → ℕ → Packet
 packet_held t p = record {
   flow = flow_at t p;
   turn = 0;
-  release = get_or t.release p 0;
-  deadline = get_or t.release p 0 + get_or t.due (flow_at t p) 0;
+  release = release_at t p;
+  deadline = release_at t p + due_at t (flow_at t p);
   occupancy = span_of t (flow_at t p);
   path = path_for t (flow_at t p);
 }

@@ -33,9 +33,9 @@ pub fn place(
     requires { Placeable traffic.now taken.now marks.old pruning p }
     ensures { (result ≡ place_in traffic.now taken.now pruning p) × (marks.new ≡ stamped_for traffic.now p marks.old) }
 {
-    let own = traffic.flow[p] as usize;
-    let begin = traffic.release[p];
-    let latest = begin + traffic.due[own] - traffic.occupancy[own];
+    let own = traffic.packets[p].flow as usize;
+    let begin = traffic.packets[p].release;
+    let latest = begin + traffic.flows[own].due - traffic.flows[own].occupancy;
     let from = resume(traffic, taken, pruning, p);
     let at = not_over(taken, from, traffic.longest);
     stamp(marks, traffic.path(own), own);

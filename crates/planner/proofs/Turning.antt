@@ -17,7 +17,9 @@ use Rattle.packet.specs.Table.{packet_at}
 use Rattle.model.specs.Packets.{packets_in, packets_of}
 use Rattle.refusals.specs.Refusals.{Tested, accepted, refusal_of}
 use Rattle.model.specs.Fair.{Fair}
-use Rattle.arrays.specs.Arrays.{arrays_of, model_of, packet_in}
+use Rattle.load.specs.Entries.{no_packet, nth_flow, nth_packet}
+use Rattle.load.specs.declared.entries.FlowEntry.{FlowEntry}
+use Rattle.arrays.specs.Arrays.{flow_numbers, model_of, packet_in}
 use Rattle.model.specs.declared.answers.Answer.{Answer}
 use Rattle.arrays.specs.declared.build.Flows.{Flows}
 use Rattle.arrays.specs.declared.build.Packets.{Packets}
@@ -26,7 +28,7 @@ use Rattle.model.specs.declared.flows.Mesh.{Mesh}
 use Rattle.refusals.proofs.Accepted.{accepted_fair}
 use Rattle.model.proofs.Numbering.{packets_length}
 use Rattle.model.proofs.InTime.{packets_in_time}
-use Rattle.arrays.proofs.Entries.{period_entry, flow_entry}
+use Rattle.arrays.proofs.Entries.{numbers_are, period_entry, flow_entry}
 use Rattle.arrays.proofs.Reading.{model_count, packet_in_lem, model_in_bounds}
 use Rattle.planner.specs.Numbered.{packets_for, array_of, plan_for, Turned}
 use Rattle.planner.specs.declared.numbering.Plan.{Plan}
@@ -72,11 +74,17 @@ module _ (mesh : Mesh) (numbers : List ℕ) (fair : Fair mesh numbers) where
       (by_places (λ (q : Packet). q.turn) refl (packets_of mesh numbers) (λ p. (packet_in (model_of mesh numbers).flows (model_of mesh numbers).packets p).turn)
       (λ p h. ap (λ (q : Packet). q.turn) (packet_in_lem mesh numbers fair p (omega (arith, packets_length mesh numbers)))))
 
+-- a packet of the part that is filled
+pub packet_read : (packets : Packets) (p : ℕ) → p < length (take packets.count packets.all)
+    → nth_packet (take packets.count packets.all) p ≡ nth_packet packets.all p
+packet_read packets p h = get_or-take packets.count packets.all p no_packet (omega (arith, length-take packets.count packets.all))
+
 -- a turn that is read off the arrays
-pub turn_read : (flows : Flows) (packets : Packets) (p : ℕ) → p < length (take packets.count packets.flow)
-    → get_or packets.release p 0 / get_or flows.period (get_or (take packets.count packets.flow) p 0) 0 ≡ (packet_in flows packets p).turn
+pub turn_read : (flows : Flows) (packets : Packets) (p : ℕ) → p < length (take packets.count packets.all) → (flow : FlowEntry)
+    → flow ≡ nth_flow flows.all (nth_packet (take packets.count packets.all) p).flow
+    → (nth_packet (take packets.count packets.all) p).release / flow.period ≡ (packet_in flows packets p).turn
 unfolding packet_in
-turn_read flows packets p h = rw (get_or-take packets.count packets.flow p 0 (omega (arith, length-take packets.count packets.flow)))
+turn_read flows packets p h flow e = rw (e, packet_read packets p h) refl
 
 -- ---- plans
 
@@ -85,9 +93,9 @@ abbrev plan_with : Answer → List ℕ → List ℕ → Plan
 plan_with answer flow turn = record { answer = answer; flow = flow; turn = turn }
 
 -- the flows in the arrays are those of the packets
-flows_are : (mesh : Mesh) (numbers : List ℕ) → (model_of mesh numbers).packets.flow ≡ array_of (λ (q : Packet). q.flow) (packets_of mesh numbers)
-unfolding model_of arrays_of array_of
-flows_are mesh numbers = refl
+flows_are : (mesh : Mesh) (numbers : List ℕ) → flow_numbers (model_of mesh numbers).packets.all ≡ array_of (λ (q : Packet). q.flow) (packets_of mesh numbers)
+unfolding model_of array_of
+flows_are mesh numbers = numbers_are (packets_of mesh numbers)
 
 -- a model that is refused has no packets
 pub plan_refused : (answer : Answer) (mesh : Mesh) (numbers : List ℕ) → is_err (refusal_of mesh accepted numbers) ≡ true
@@ -105,14 +113,14 @@ is_accepted (Ok x) e = refl
 is_accepted (Err r) e = cc
 
 -- the plan of a model that is not refused, from its arrays
-pub plan_built : (answer : Answer) (mesh : Mesh) (numbers : List ℕ) (m : Model) (turn : List ℕ) → refusal_of mesh accepted numbers ≡ accepted
-    → m ≡ model_of mesh numbers
+pub plan_built : (answer : Answer) (mesh : Mesh) (numbers : List ℕ) (m : Model) (flow turn : List ℕ) → refusal_of mesh accepted numbers ≡ accepted
+    → m ≡ model_of mesh numbers → flow ≡ flow_numbers m.packets.all
     → turn ≡ padded 1024 0 (tabulate (λ p. (packet_in m.flows m.packets p).turn) 0 m.packets.count)
-    → record { answer = answer; flow = m.packets.flow; turn = turn } ≡ plan_for answer (packets_for mesh numbers)
+    → record { answer = answer; flow = flow; turn = turn } ≡ plan_for answer (packets_for mesh numbers)
 unfolding plan_for packets_for array_of
-plan_built answer mesh numbers m turn z em et =
+plan_built answer mesh numbers m flow turn z em ef et =
     let fair = accepted_fair mesh accepted numbers z in
     ap₂ (λ (f t : List ℕ). plan_with answer f t)
-    (ap (λ (x : Model). x.packets.flow) em ∙ flows_are mesh numbers)
+    (ef ∙ ap (λ (x : Model). flow_numbers x.packets.all) em ∙ flows_are mesh numbers)
     (et ∙ ap (λ (x : Model). padded 1024 0 (tabulate (λ p. (packet_in x.flows x.packets p).turn) 0 x.packets.count)) em ∙ turns_are mesh numbers fair)
     ∙ sym (rw z)

@@ -1,10 +1,11 @@
 -- The packets of a model as the printer wants them: an answer with the flow and k of each packet.
-use Rattle.std.specs.Prelude.{List, [], map, ℕ, ◌<◌, get_or, is_ok}
+use Rattle.std.specs.Prelude.{List, [], map, ℕ, ◌<◌, is_ok}
 use Rattle.basics.specs.Choose.{choose}
 use Rattle.basics.specs.Lists.{padded}
 use Rattle.packet.specs.Packet.{Packet}
 use Rattle.model.specs.Packets.{packets_of}
 use Rattle.refusals.specs.Refusals.{accepted, refusal_of}
+use Rattle.load.specs.Entries.{nth_flow, nth_packet}
 use Rattle.arrays.specs.Arrays.{packet_in, InBounds}
 use Rattle.model.specs.declared.answers.Answer.{Answer}
 use Rattle.arrays.specs.declared.build.Flows.{Flows}
@@ -27,5 +28,5 @@ plan_for answer ps = record { answer = answer; flow = array_of (λ (p : Packet).
 -- what reading the turns off the arrays asks
 pub record Turned (flows : Flows) (packets : Packets) : Type 0 where
   pub ready : InBounds flows packets
-  pub lasting : (p : ℕ) → p < packets.count → 0 < get_or flows.period (get_or packets.flow p 0) 0
+  pub lasting : (p : ℕ) → p < packets.count → 0 < (nth_flow flows.all (nth_packet packets.all p).flow).period
   pub few : (p : ℕ) → p < packets.count → (packet_in flows packets p).turn < 65536

@@ -22,9 +22,9 @@ fn turns(flows: Flows, packets: Packets) -> [u16; 1024]
     ensures { result ≡ padded 1024 0 (tabulate (λ p. (packet_in flows packets p).turn) 0 packets.count) }
 {
     let mut all = [0u16; 1024];
-    for (p, flow) in packets.flow[..packets.count].iter().enumerate() {
-        let period = flows.period[*flow as usize];
-        all[p] = (packets.release[p] / period) as u16;
+    for (p, packet) in packets.all[..packets.count].iter().enumerate() {
+        let period = packet.flow_among(&flows.all).period;
+        all[p] = (packet.release / period) as u16;
     }
     all
 }
@@ -49,7 +49,7 @@ pub fn with_packets(answer: Answer, mesh: Mesh, numbers: &[u32]) -> Plan
         return bare(answer);
     }
     let m = model_of(mesh, numbers);
-    let flow = m.packets.flow;
+    let flow = m.packets.flow_numbers();
     let turn = turns(m.flows, m.packets);
     Plan { answer, flow, turn }
 }

@@ -10,9 +10,10 @@ fn strays(flows: &Flows, packets: &Packets, table: &[u32], p: usize) -> bool
     requires { Scan flows.now packets.now table.now × (p < packets.now.count) }
     ensures { result ≡ strays flows.now packets.now table.now p }
 {
-    let f = packets.flow[p] as usize;
-    let release = packets.release[p];
-    let latest = release + flows.due[f] - flows.occupancy[f];
+    let packet = packets.all[p];
+    let flow = packet.flow_among(&flows.all);
+    let release = packet.release;
+    let latest = release + flow.due - flow.occupancy;
     let time = table[p];
     let early = time < release;
     let late = latest < time;

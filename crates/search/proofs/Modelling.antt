@@ -21,13 +21,16 @@ use Rattle.packet.specs.Table.{packet_at}
 use Rattle.model.specs.Flows.{source_of, target_of, flows_in, links_of_flow, occupancy_in}
 use Rattle.model.specs.Packets.{packets_in, packet_of, packets_of}
 use Rattle.model.specs.Fair.{Fair}
-use Rattle.arrays.specs.Arrays.{flows_up_to, arrays_of, model_of, no_path, packet_in, packets_read}
+use Rattle.arrays.specs.Arrays.{empty_flow, entry_of_flow, flows_up_to, entry_of_packet, arrays_of, model_of, packet_in, packets_read}
 use Rattle.model.specs.declared.flows.Mesh.{Mesh}
 use Rattle.arrays.specs.declared.build.Model.{Model}
 use Rattle.model.proofs.Numbering.{packets_length}
 use Rattle.model.proofs.InTime.{InTime, turns_low, fair_timed, packet_in_time, packets_in_time}
 use Rattle.arrays.proofs.Entries.{occupancy_entry, path_entry, flow_entry}
 use Rattle.arrays.proofs.Reading.{read_count, read_at, model_count, packet_in_lem, path_in_lem}
+use Rattle.load.specs.Entries.{no_flow, no_packet, nth_flow, nth_packet}
+use Rattle.load.specs.declared.entries.FlowEntry.{FlowEntry}
+use Rattle.load.specs.declared.entries.PacketEntry.{PacketEntry}
 use Rattle.load.specs.Load.{flow_at, span_of, path_in, Paths}
 use Rattle.load.proofs.Paths.{path_length}
 use Rattle.std.specs.Prelude.{Option}
@@ -56,17 +59,21 @@ module _ (mesh : Mesh) (numbers : List ℕ) (fair : Fair mesh numbers) where
   flow_packet : (q : ℕ) → q < flows_in numbers → InTime mesh numbers (packet_of mesh numbers q 0)
   flow_packet q h = packet_in_time mesh numbers fair q 0 h (turns_low numbers (fair_timed mesh numbers fair) q h)
 
+  -- behind the flows all is 0, and no path has a link
+  flow_past : (q : ℕ) → flows_in numbers ≤ q → q < 64 → nth_flow (flows_up_to mesh numbers (flows_in numbers)).all q ≡ empty_flow
+  unfolding flows_up_to
+  flow_past q a h =
+      padded_past 64 empty_flow (tabulate (entry_of_flow mesh numbers) 0 (flows_in numbers)) q no_flow
+      (omega (arith, tabulate_length (entry_of_flow mesh numbers) 0 (flows_in numbers))) h
+
   -- what holds of the path of each flow, and of no path, holds of each entry
   each_path : (P : Path → Type 0) → ((q : ℕ) → q < flows_in numbers → P (path_of (links_of_flow mesh numbers q))) → P (path_of [])
-      → (q : ℕ) → q < 64 → P (get_or (model_of mesh numbers).flows.path q no_path)
-  unfolding model_of flows_up_to
+      → (q : ℕ) → q < 64 → P (nth_flow (model_of mesh numbers).flows.all q).path
+  unfolding model_of
   each_path P own none q h =
       elim (dec_le (flows_in numbers) q) [
-        | no a ↦ subst P (sym (path_entry mesh numbers q (lt_of_not-le a) no_path)) (own q (lt_of_not-le a))
-        | yes a ↦
-            subst P
-            (sym (padded_past 64 (path_of []) (tabulate (λ f. path_of (links_of_flow mesh numbers f)) 0 (flows_in numbers)) q no_path
-            (omega (arith, tabulate_length (λ f. path_of (links_of_flow mesh numbers f)) 0 (flows_in numbers))) h)) none
+        | no a ↦ subst P (sym (path_entry mesh numbers q (lt_of_not-le a))) (own q (lt_of_not-le a))
+        | yes a ↦ subst P (sym (ap (λ (r : FlowEntry). r.path) (flow_past q a h))) none
       ]
 
   -- a flow's path has at most 32 links
@@ -74,25 +81,18 @@ module _ (mesh : Mesh) (numbers : List ℕ) (fair : Fair mesh numbers) where
   unfolding packet_of
   path_short q h = (flow_packet q h).path_small
 
-  -- behind the flows there are no occupancies
-  span_past : (q : ℕ) → flows_in numbers ≤ q → q < 64 → get_or (flows_up_to mesh numbers (flows_in numbers)).occupancy q 0 ≡ 0
-  unfolding flows_up_to
-  span_past q a h =
-      padded_past 64 0 (tabulate (occupancy_in mesh numbers) 0 (flows_in numbers)) q 0
-      (omega (arith, tabulate_length (occupancy_in mesh numbers) 0 (flows_in numbers))) h
-
   -- no occupancy is above the longest hyper-period
-  span_small : (q : ℕ) → q < 64 → get_or (model_of mesh numbers).flows.occupancy q 0 ≤ most
+  span_small : (q : ℕ) → q < 64 → (nth_flow (model_of mesh numbers).flows.all q).occupancy ≤ most
   unfolding model_of packet_of
   span_small q h =
       elim (dec_le (flows_in numbers) q) [
         | no a ↦
             omega (arith, occupancy_entry mesh numbers q (lt_of_not-le a), (flow_packet q (lt_of_not-le a)).occupancy_small)
-        | yes a ↦ omega (arith, span_past q a h)
+        | yes a ↦ omega (arith, ap (λ (r : FlowEntry). r.occupancy) (flow_past q a h))
       ]
 
   -- every packet's flow is below 64, and 0 is read behind the packets
-  flow_small : (q : ℕ) → q < 1024 → get_or (model_of mesh numbers).packets.flow q 0 < 64
+  flow_small : (q : ℕ) → q < 1024 → (nth_packet (model_of mesh numbers).packets.all q).flow < 64
   unfolding model_of arrays_of
   flow_small q h =
       elim (dec_le (packets_in numbers) q) [
@@ -100,8 +100,8 @@ module _ (mesh : Mesh) (numbers : List ℕ) (fair : Fair mesh numbers) where
         | yes a ↦
             omega (
               arith,
-              padded_past 1024 0 (map (λ (p : Packet). p.flow) (packets_of mesh numbers)) q 0
-                  (omega (arith, length-map (packets_of mesh numbers) (λ (p : Packet). p.flow), packets_length mesh numbers)) h,
+              ap (λ (r : PacketEntry). r.flow) (padded_past 1024 no_packet (map entry_of_packet (packets_of mesh numbers)) q no_packet
+                  (omega (arith, length-map (packets_of mesh numbers) entry_of_packet, packets_length mesh numbers)) h),
             )
       ]
 
@@ -128,7 +128,7 @@ module _ (mesh : Mesh) (numbers : List ℕ) (fair : Fair mesh numbers) where
 
   -- every packet's path has a link
   routed_entry : (p : ℕ) → p < packets_in numbers
-      → 0 < (get_or (model_of mesh numbers).flows.path (get_or (model_of mesh numbers).packets.flow p 0) no_path).len
+      → 0 < (nth_flow (model_of mesh numbers).flows.all (nth_packet (model_of mesh numbers).packets.all p).flow).path.len
   routed_entry p h = omega (arith, path_in_lem mesh numbers fair p h, (packets_in_time mesh numbers fair p h).routed)
 
   -- the model is what the search asks
@@ -167,18 +167,15 @@ module _ (mesh : Mesh) (numbers : List ℕ) (fair : Fair mesh numbers) where
 abbrev pub traffic_of : Model → ℕ → List (Option ℕ) → Traffic
 traffic_of model longest back = record {
   count = model.packets.count;
-  flow = model.packets.flow;
-  release = model.packets.release;
-  occupancy = model.flows.occupancy;
-  due = model.flows.due;
+  packets = model.packets.all;
+  flows = model.flows.all;
   longest = longest;
-  paths = model.flows.path;
   back = back;
 }
 
-module _ {model : Model} {f g : ℕ} (m : Modelled model f g) {longest : ℕ} (reaches : (q : ℕ) → q < 64 → get_or model.flows.occupancy q 0 ≤ longest) where
+module _ {model : Model} {f g : ℕ} (m : Modelled model f g) {longest : ℕ} (reaches : (q : ℕ) → q < 64 → (nth_flow model.flows.all q).occupancy ≤ longest) where
   -- the paths are good
-  paths_good : Paths model.flows.path
+  paths_good : Paths model.flows.all
   paths_good = record { whole = m.whole; short = m.short; numbers = m.numbers }
 
   -- what the passes ask of the packets
@@ -192,7 +189,7 @@ module _ {model : Model} {f g : ℕ} (m : Modelled model f g) {longest : ℕ} (r
     low = m.low;
     high = m.high;
     lasting = m.busy;
-    some_links = λ p h. omega (arith, path_length paths_good (get_or model.packets.flow p 0) (m.flows p (omega (arith, m.grouped.few))), m.routed p h);
+    some_links = λ p h. omega (arith, path_length paths_good ((nth_packet model.packets.all p).flow) (m.flows p (omega (arith, m.grouped.few))), m.routed p h);
     fits = λ p h. omega (arith, m.fits p h);
     ends = m.ends;
     longest_of = reaches;

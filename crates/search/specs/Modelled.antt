@@ -3,7 +3,8 @@ use Rattle.std.specs.Prelude.{◌≡◌, ℕ, ◌+◌, ◌≤◌, ◌<◌, lengt
 use Rattle.mesh.specs.Link.{all_links}
 use Rattle.hyperperiod.specs.Hyper.{most}
 use Rattle.order.specs.Grouped.{Grouped}
-use Rattle.arrays.specs.Arrays.{no_path, packet_in}
+use Rattle.load.specs.Entries.{nth_flow, nth_packet}
+use Rattle.arrays.specs.Arrays.{flow_numbers, packet_in}
 use Rattle.arrays.specs.declared.build.Model.{Model}
 use Rattle.keys.specs.Slack.{Keyed}
 
@@ -13,14 +14,14 @@ pub record Modelled (model : Model) (f g : ℕ) : Type 0 where
   pub fits : (p : ℕ) → p < model.packets.count
       → (packet_in model.flows model.packets p).release + (packet_in model.flows model.packets p).occupancy ≤ (packet_in model.flows model.packets p).deadline
   pub ends : (p : ℕ) → p < model.packets.count → (packet_in model.flows model.packets p).deadline ≤ most
-  pub routed : (p : ℕ) → p < model.packets.count → 0 < (get_or model.flows.path (get_or model.packets.flow p 0) no_path).len
+  pub routed : (p : ℕ) → p < model.packets.count → 0 < (nth_flow model.flows.all (nth_packet model.packets.all p).flow).path.len
   pub keyed : Keyed model
-  pub grouped : Grouped model.packets.flow model.flows.count model.packets.count
-  pub flows : (q : ℕ) → q < 1024 → get_or model.packets.flow q 0 < 64
-  pub spans : (q : ℕ) → q < 64 → get_or model.flows.occupancy q 0 ≤ most
-  pub whole : (q : ℕ) → q < 64 → length (get_or model.flows.path q no_path).links ≡ 32
-  pub short : (q : ℕ) → q < 64 → (get_or model.flows.path q no_path).len ≤ 32
-  pub numbers : (q : ℕ) → q < 64 → (a : ℕ) → a < 32 → get_or (get_or model.flows.path q no_path).links a 0 < all_links
+  pub grouped : Grouped (flow_numbers model.packets.all) model.flows.count model.packets.count
+  pub flows : (q : ℕ) → q < 1024 → (nth_packet model.packets.all q).flow < 64
+  pub spans : (q : ℕ) → q < 64 → (nth_flow model.flows.all q).occupancy ≤ most
+  pub whole : (q : ℕ) → q < 64 → length (nth_flow model.flows.all q).path.links ≡ 32
+  pub short : (q : ℕ) → q < 64 → (nth_flow model.flows.all q).path.len ≤ 32
+  pub numbers : (q : ℕ) → q < 64 → (a : ℕ) → a < 32 → get_or (nth_flow model.flows.all q).path.links a 0 < all_links
   pub some_step : 0 < f
   pub small_step : f ≤ 65536
   pub low : 0 < g

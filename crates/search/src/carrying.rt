@@ -1,6 +1,7 @@
 // The passes over a model.
-ghost use Rattle.std.specs.Prelude.{◌≡◌, ℕ, ◌<◌, ◌≤◌, length, get_or};
+ghost use Rattle.std.specs.Prelude.{◌≡◌, ℕ, ◌<◌, ◌≤◌, length};
 ghost use Rattle.passes.specs.Search.{found_of};
+ghost use Rattle.load.specs.Entries.{nth_flow};
 ghost use Rattle.arrays.specs.Arrays.{packets_read};
 ghost use Rattle.search.specs.Answering.{search_of};
 ghost use Rattle.search.specs.Modelled.{Modelled};
@@ -8,15 +9,15 @@ ghost use Rattle.search.specs.Modelled.{Modelled};
 use crate::twinning::backs_of;
 use arrays::Model;
 use keys::slacks;
-use load::Traffic;
+use load::{FlowEntry, Traffic};
 use order::by_flow;
 use passes::{Outcome, rounds};
 
 // The longest of the occupancies: none is above it.
-fn longest_of(occupancy: &[u32; 64]) -> u32
-    ensures { (g : ℕ) → g < 64 → get_or occupancy.now g 0 ≤ result }
+fn longest_of(flows: &[FlowEntry; 64]) -> u32
+    ensures { (g : ℕ) → g < 64 → (nth_flow flows.now g).occupancy ≤ result }
 {
-    occupancy.iter().copied().max().unwrap_or(0)
+    flows.iter().map(|flow| flow.occupancy).max().unwrap_or(0)
 }
 
 // The passes over a model that is not refused, from its packets in order of least slack.
@@ -28,18 +29,16 @@ pub fn run(model: Model, pruning: u32, threshold: u32) -> Outcome
     let list = by_flow(
         &key,
         model.flows.count,
-        &model.packets.flow,
+        &model.packets.flow_numbers(),
         model.packets.count,
     );
+    let flows = model.flows.all;
     let traffic = Traffic {
         count: model.packets.count,
-        flow: model.packets.flow,
-        release: model.packets.release,
-        occupancy: model.flows.occupancy,
-        due: model.flows.due,
-        longest: longest_of(&model.flows.occupancy),
-        paths: model.flows.path,
-        back: backs_of(&model.flows.path, &model.flows.period, model.hyper),
+        packets: model.packets.all,
+        flows,
+        longest: longest_of(&flows),
+        back: backs_of(&flows, model.hyper),
     };
     rounds(list, &traffic, pruning, threshold)
 }

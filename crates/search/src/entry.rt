@@ -22,7 +22,7 @@ fn refuse_settings(pruning: u32, threshold: u32) -> Result<(), Refusal>
 }
 
 // The refusals in order, then the passes; a refusal writes nothing.
-#[tactic(auto, using(crate::proofs::Entering::entry_fair, crate::proofs::Entering::model_holds, crate::proofs::Entering::model_packets), unfolding(crate::specs::Answering::answer_of, crate::specs::Answering::table_after, crate::specs::Answering::search_refusal, crate::specs::Answering::bad_table, refusals::specs::Refusals::refuse_if))]
+#[tactic(auto, using(crate::proofs::Entering::entry_fair, crate::proofs::Entering::model_packets), unfolding(crate::specs::Answering::answer_of, crate::specs::Answering::table_after, crate::specs::Answering::search_refusal, crate::specs::Answering::bad_table, refusals::specs::Refusals::refuse_if))]
 fn found(
     mesh: Mesh,
     pruning: u32,

@@ -23,11 +23,11 @@ use Rattle.time.specs.Window.{overlaps}
 use Rattle.time.proofs.Windows.{overlaps_longer}
 use Rattle.hyperperiod.specs.Hyper.{most}
 use Rattle.packet.specs.Table.{none}
-use Rattle.load.specs.Load.{flow_at, span_of, path_in, path_for}
+use Rattle.load.specs.Load.{flow_at, span_of, path_in, path_for, release_at}
 use Rattle.load.specs.declared.traffic.Traffic.{Traffic}
 use Rattle.kept.specs.Kept.{start_of}
 use Rattle.kept.specs.declared.finding.Taken.{Taken}
-use Rattle.routes.specs.declared.paths.Path.{Path}
+use Rattle.load.specs.declared.entries.FlowEntry.{FlowEntry}
 use Rattle.std.specs.Prelude.{Option, None, Some}
 use Rattle.std.proofs.lemmas.Bool.Decides.{same_from_decides, Decides-at}
 use Rattle.std.specs.Bool.{Decides}
@@ -40,25 +40,25 @@ use Rattle.gaps.proofs.Sweeping.{Jump, jump, meets_hits}
 use Rattle.twins.specs.Twins.{same_path, is_twin, twin_back, twin_at, behind, resume_at, Resume, Stood}
 
 -- two flows have the same path where the test finds so
-pub paths_same : (paths : List Path) (g h : ℕ) → same_path paths g h ≡ true → path_in paths g ≡ path_in paths h
+pub paths_same : (flows : List FlowEntry) (g h : ℕ) → same_path flows g h ≡ true → path_in flows g ≡ path_in flows h
 unfolding same_path
-paths_same paths g h e =
-    ext_get_or 0 (path_in paths g) (path_in paths h) (eqb-true _ _ (both_first _ _ e)) (λ a l.
-    eqb-true _ _ (every_at (λ a. eqb (get_or (path_in paths g) a 0) (get_or (path_in paths h) a 0)) (length (path_in paths g))
-    (both_second (eqb (length (path_in paths g)) (length (path_in paths h))) _ e) a l))
+paths_same flows g h e =
+    ext_get_or 0 (path_in flows g) (path_in flows h) (eqb-true _ _ (both_first _ _ e)) (λ a l.
+    eqb-true _ _ (every_at (λ a. eqb (get_or (path_in flows g) a 0) (get_or (path_in flows h) a 0)) (length (path_in flows g))
+    (both_second (eqb (length (path_in flows g)) (length (path_in flows h))) _ e) a l))
 
 -- and it finds so where they have
-pub same_paths : (paths : List Path) (g h : ℕ) → path_in paths g ≡ path_in paths h → same_path paths g h ≡ true
+pub same_paths : (flows : List FlowEntry) (g h : ℕ) → path_in flows g ≡ path_in flows h → same_path flows g h ≡ true
 unfolding same_path
-same_paths paths g h e =
+same_paths flows g h e =
     rw e (both_pass _ _ (eq-eqb _ _ refl) (every_all _ _ (λ a l. eq-eqb _ _ refl)))
 
 -- so finds the comparison of their links
 pub path_test : (traffic : Traffic) (g h : ℕ) {a b : List ℕ} {same : Bool} → a ≡ path_for traffic g → b ≡ path_for traffic h → same ≡ pointwise eqb a b
-    → same ≡ same_path traffic.paths g h
+    → same ≡ same_path traffic.flows g h
 path_test traffic g h {a} {b} {same} e f r =
     let links : Decides same (a ≡ b) = Decides-at same (bytes_eq a b) r (bytes_eq-Decides a b) in
-    same_from_decides same (same_path traffic.paths g h) (rw (e, f) at links) (paths_same traffic.paths g h, same_paths traffic.paths g h)
+    same_from_decides same (same_path traffic.flows g h) (rw (e, f) at links) (paths_same traffic.flows g h, same_paths traffic.flows g h)
 
 -- tests one after the other, of which the first three pass
 pub chain_pass : (a b d : Bool) {e v w r : Bool} → v ≡ both a b → w ≡ both v d → w ≡ true → r ≡ e → r ≡ both a (both b (both d e))
@@ -78,8 +78,8 @@ chain_fail false b d e one two t = t
 
 module _ (traffic : Traffic) (taken : Taken) (p q : ℕ) (e : is_twin traffic taken p q ≡ true) where
   -- the tests after the first
-  rest : both (eqb (get_or traffic.release q 0) (get_or traffic.release p 0))
-      (both (leb (span_of traffic (flow_at traffic q)) (span_of traffic (flow_at traffic p))) (same_path traffic.paths (flow_at traffic p) (flow_at traffic q))) ≡ true
+  rest : both (eqb (release_at traffic q) (release_at traffic p))
+      (both (leb (span_of traffic (flow_at traffic q)) (span_of traffic (flow_at traffic p))) (same_path traffic.flows (flow_at traffic p) (flow_at traffic q))) ≡ true
   unfolding is_twin
   rest = both_second (not (eqb (get_or taken.times q 0) none)) _ e
 
@@ -89,18 +89,18 @@ module _ (traffic : Traffic) (taken : Taken) (p q : ℕ) (e : is_twin traffic ta
   twin_timed z = false≢true (sym (ap not (eq-eqb (get_or taken.times q 0) none z)) ∙ both_first _ _ e)
 
   -- it has the same release
-  twin_release : get_or traffic.release q 0 ≡ get_or traffic.release p 0
+  twin_release : release_at traffic q ≡ release_at traffic p
   twin_release = eqb-true _ _ (both_first _ _ rest)
 
   -- and no longer occupancy
   twin_span : span_of traffic (flow_at traffic q) ≤ span_of traffic (flow_at traffic p)
-  twin_span = leb-true _ _ (both_first _ _ (both_second (eqb (get_or traffic.release q 0) (get_or traffic.release p 0)) _ rest))
+  twin_span = leb-true _ _ (both_first _ _ (both_second (eqb (release_at traffic q) (release_at traffic p)) _ rest))
 
   -- and the same path
   twin_path : path_for traffic (flow_at traffic p) ≡ path_for traffic (flow_at traffic q)
   twin_path =
-      paths_same traffic.paths (flow_at traffic p) (flow_at traffic q)
-      (both_second (leb (span_of traffic (flow_at traffic q)) (span_of traffic (flow_at traffic p))) _ (both_second (eqb (get_or traffic.release q 0) (get_or traffic.release p 0)) _ rest))
+      paths_same traffic.flows (flow_at traffic p) (flow_at traffic q)
+      (both_second (leb (span_of traffic (flow_at traffic q)) (span_of traffic (flow_at traffic p))) _ (both_second (eqb (release_at traffic q) (release_at traffic p)) _ rest))
 
 -- a twin that is found is one, and stands before
 twin_back_found : (traffic : Traffic) (taken : Taken) (p q : ℕ) (back : Option ℕ) → twin_back traffic taken p back ≡ Some q
@@ -170,10 +170,10 @@ module _ (traffic : Traffic) (taken : Taken) (g h : ℕ) (path : path_for traffi
 -- ---- the time from which on a gap is sought
 
 module _ {traffic : Traffic} {taken : Taken} {f p : ℕ} (asks : Resume traffic taken f p)
-    (soon : get_or traffic.release p 0 ≤ most) (some_links : 0 < length (path_for traffic (flow_at traffic p)))
+    (soon : release_at traffic p ≤ most) (some_links : 0 < length (path_for traffic (flow_at traffic p)))
     (stood : (q : ℕ) → q < p → (get_or taken.times q 0 ≡ none → ⊥) → Stood traffic taken f q) where
   -- at its release
-  at_release : Resumes traffic taken (flow_at traffic p) f (get_or traffic.release p 0) (get_or traffic.release p 0)
+  at_release : Resumes traffic taken (flow_at traffic p) f (release_at traffic p) (release_at traffic p)
   at_release = record { small = omega arith; i = 0; grid = omega arith; blocked = λ m h. absurd (omega arith) }
 
   -- a packet's path shares a link with itself
@@ -196,10 +196,10 @@ module _ {traffic : Traffic} {taken : Taken} {f p : ℕ} (asks : Resume traffic 
     twin = stood q before (twin_timed traffic taken p q e)
 
     -- behind the twin
-    behind_twin : Resumes traffic taken (flow_at traffic p) f (get_or traffic.release p 0) (time_past (get_or taken.times q 0) (get_or taken.times q 0 + span_of traffic (flow_at traffic q)) f)
+    behind_twin : Resumes traffic taken (flow_at traffic p) f (release_at traffic p) (time_past (get_or taken.times q 0) (get_or taken.times q 0 + span_of traffic (flow_at traffic q)) f)
     unfolding time_past start_of flow_of
     behind_twin =
-        let begin : ℕ = get_or traffic.release p 0 in
+        let begin : ℕ = release_at traffic p in
         let s : ℕ = get_or taken.times q 0 in
         let gap : ℕ = span_of traffic (flow_at traffic q) in
         let lasts : 0 < span_of traffic (flow_at traffic q) = asks.lasting q before in
@@ -207,7 +207,7 @@ module _ {traffic : Traffic} {taken : Taken} {f p : ℕ} (asks : Resume traffic 
         let steps : ℕ = (get_or taken.times q 0 + span_of traffic (flow_at traffic q) - get_or taken.times q 0 + f - 1) / f in
         let j : Jump f (get_or taken.times q 0 + span_of traffic (flow_at traffic q) - get_or taken.times q 0) steps =
         jump f (get_or taken.times q 0 + span_of traffic (flow_at traffic q) - get_or taken.times q 0) asks.some_step (omega arith) in
-        let same : get_or traffic.release q 0 ≡ get_or traffic.release p 0 = twin_release traffic taken p q e in
+        let same : release_at traffic q ≡ release_at traffic p = twin_release traffic taken p q e in
         let small = asks.soon q before (twin_timed traffic taken p q e) in
         let short = asks.loaded.spans (flow_at traffic q) other in
         record {
@@ -217,7 +217,7 @@ module _ {traffic : Traffic} {taken : Taken} {f p : ℕ} (asks : Resume traffic 
           blocked = λ m h.
               elim (dec_le twin.i m) [
                 | no a ↦
-                    blocked_too traffic taken (flow_at traffic p) (flow_at traffic q) path span (get_or traffic.release p 0 + m * f)
+                    blocked_too traffic taken (flow_at traffic p) (flow_at traffic q) path span (release_at traffic p + m * f)
                     (subst (λ (r : ℕ). some (hits traffic taken (flow_at traffic q) (r + m * f)) taken.count ≡ true) same (twin.tight m (lt_of_not-le a)))
                 | yes a ↦
                     let d : twin.i + (m - twin.i) ≡ m = omega arith in
@@ -229,18 +229,18 @@ module _ {traffic : Traffic} {taken : Taken} {f p : ℕ} (asks : Resume traffic 
                     ∙ ap (shares (path_for traffic (flow_at traffic p))) (sym path) ∙ own_shares in
                     let length_is : span_of traffic (flow_at traffic (get_or taken.by twin.j 0)) ≡ span_of traffic (flow_at traffic q) = ap (λ (r : ℕ). span_of traffic (flow_at traffic r)) twin.here in
                     some_at _ taken.count twin.j twin.within
-                    (meets_hits traffic taken (flow_at traffic p) twin.j (get_or traffic.release p 0 + m * f) meets
+                    (meets_hits traffic taken (flow_at traffic p) twin.j (release_at traffic p + m * f) meets
                     (omega (arith, twin.grid, same, at, near, start, length_is, end_gap))
                     (omega (arith, twin.grid, same, at, start, span, lasts)))
               ];
         }
 
   -- either
-  pub resumes : Resumes traffic taken (flow_at traffic p) f (get_or traffic.release p 0) (resume_at traffic taken f p)
+  pub resumes : Resumes traffic taken (flow_at traffic p) f (release_at traffic p) (resume_at traffic taken f p)
   unfolding resume_at behind
   resumes = go (twin_at traffic taken p) refl
     where
       go : (twin : Option ℕ) → twin_at traffic taken p ≡ twin
-          → Resumes traffic taken (flow_at traffic p) f (get_or traffic.release p 0) (behind traffic taken f p twin)
+          → Resumes traffic taken (flow_at traffic p) f (release_at traffic p) (behind traffic taken f p twin)
       go None e = at_release
       go (Some q) e = let t = twin_found traffic taken p q e in behind_twin q t.0 t.1

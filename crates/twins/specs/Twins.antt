@@ -4,25 +4,25 @@ use Rattle.basics.specs.Choose.{both, choose}
 use Rattle.basics.specs.First.{some, every}
 use Rattle.hyperperiod.specs.Hyper.{most}
 use Rattle.packet.specs.Table.{none}
-use Rattle.load.specs.Load.{flow_at, span_of, path_in, Loaded}
+use Rattle.load.specs.Load.{flow_at, span_of, path_in, Loaded, release_at}
 use Rattle.load.specs.declared.traffic.Traffic.{Traffic}
 use Rattle.kept.specs.declared.finding.Taken.{Taken}
-use Rattle.routes.specs.declared.paths.Path.{Path}
+use Rattle.load.specs.declared.entries.FlowEntry.{FlowEntry}
 use Rattle.gaps.specs.Gaps.{hits}
 use Rattle.gaps.specs.Sweeps.{time_past}
 
 -- two flows have the same path
-unfoldable pub same_path : List Path → ℕ → ℕ → Bool
-same_path paths g h =
-    both (eqb (length (path_in paths g)) (length (path_in paths h)))
-    (every (λ a. eqb (get_or (path_in paths g) a 0) (get_or (path_in paths h) a 0)) (length (path_in paths g)))
+unfoldable pub same_path : List FlowEntry → ℕ → ℕ → Bool
+same_path flows g h =
+    both (eqb (length (path_in flows g)) (length (path_in flows h)))
+    (every (λ a. eqb (get_or (path_in flows g) a 0) (get_or (path_in flows h) a 0)) (length (path_in flows g)))
 
 -- packet q is a twin of packet p that is placed: it has the same release and the same path, and no longer occupancy
 unfoldable pub is_twin : Traffic → Taken → ℕ → ℕ → Bool
 is_twin traffic taken p q =
     both (not (eqb (get_or taken.times q 0) none))
-    (both (eqb (get_or traffic.release q 0) (get_or traffic.release p 0))
-    (both (leb (span_of traffic (flow_at traffic q)) (span_of traffic (flow_at traffic p))) (same_path traffic.paths (flow_at traffic p) (flow_at traffic q))))
+    (both (eqb (release_at traffic q) (release_at traffic p))
+    (both (leb (span_of traffic (flow_at traffic q)) (span_of traffic (flow_at traffic p))) (same_path traffic.flows (flow_at traffic p) (flow_at traffic q))))
 
 -- the packet so many before p, if that is a twin of it
 unfoldable pub twin_back : Traffic → Taken → ℕ → Option ℕ → Option ℕ
@@ -35,7 +35,7 @@ twin_at traffic taken p = twin_back traffic taken p (get_or traffic.back (flow_a
 
 -- behind a twin of packet p, or at its release
 unfoldable pub behind : Traffic → Taken → ℕ → ℕ → Option ℕ → ℕ
-behind traffic taken f p None = get_or traffic.release p 0
+behind traffic taken f p None = release_at traffic p
 behind traffic taken f p (Some q) = time_past (get_or taken.times q 0) (get_or taken.times q 0 + span_of traffic (flow_at traffic q)) f
 
 -- the time from which on a gap for packet p is sought
@@ -63,5 +63,5 @@ pub record Stood (traffic : Traffic) (taken : Taken) (f q : ℕ) : Type 0 where
   pub within : j < taken.count
   pub here : get_or taken.by j 0 ≡ q
   pub i : ℕ
-  pub grid : get_or taken.times q 0 ≡ get_or traffic.release q 0 + i * f
-  pub tight : (m : ℕ) → m < i → some (hits traffic taken (flow_at traffic q) (get_or traffic.release q 0 + m * f)) taken.count ≡ true
+  pub grid : get_or taken.times q 0 ≡ release_at traffic q + i * f
+  pub tight : (m : ℕ) → m < i → some (hits traffic taken (flow_at traffic q) (release_at traffic q + m * f)) taken.count ≡ true

@@ -12,11 +12,11 @@ fn is_twin(traffic: &Traffic, taken: &Taken, p: usize, q: usize) -> bool
     requires { Pair traffic.now p q }
     ensures { result ≡ is_twin traffic.now taken.now p q }
 {
-    let own = traffic.flow[p] as usize;
-    let other = traffic.flow[q] as usize;
+    let own = traffic.packets[p].flow as usize;
+    let other = traffic.packets[q].flow as usize;
     taken.times[q] != NO_TIME
-        && traffic.release[q] == traffic.release[p]
-        && traffic.occupancy[other] <= traffic.occupancy[own]
+        && traffic.packets[q].release == traffic.packets[p].release
+        && traffic.flows[other].occupancy <= traffic.flows[own].occupancy
         && traffic.path(own) == traffic.path(other)
 }
 
@@ -25,7 +25,7 @@ fn twin_of(traffic: &Traffic, taken: &Taken, p: usize) -> Option<usize>
     requires { Pair traffic.now p p }
     ensures { result ≡ twin_at traffic.now taken.now p }
 {
-    let back = traffic.back[traffic.flow[p] as usize]?;
+    let back = traffic.back[traffic.packets[p].flow as usize]?;
     let q = p.checked_sub(back)?;
     if q < p && is_twin(traffic, taken, p, q) {
         Some(q)
@@ -43,9 +43,9 @@ pub fn resume(traffic: &Traffic, taken: &Taken, pruning: u32, p: usize) -> u32
     match twin_of(traffic, taken, p) {
         Some(q) => {
             let start = taken.times[q];
-            let other = traffic.flow[q] as usize;
-            time_past(start, start + traffic.occupancy[other], pruning)
+            let other = traffic.packets[q].flow as usize;
+            time_past(start, start + traffic.flows[other].occupancy, pruning)
         }
-        None => traffic.release[p],
+        None => traffic.packets[p].release,
     }
 }

@@ -6,7 +6,7 @@ use Rattle.model.specs.Flows.{flow_of, flows_in, links_of_flow}
 use Rattle.model.specs.declared.flows.Flow.{Flow}
 use Rattle.model.proofs.Near.{ends_of, fair_sized}
 use Rattle.arrays.proofs.Filling.{flow_next}
-use Rattle.arrays.proofs.Building.{listing_none, listing_all}
+use Rattle.arrays.proofs.Building.{entry_is, listing_none, listing_all}
 use Rattle.arrays.proofs.build.flows_of.Goals as goal
 
 pub loop-f-init : goal.loop-f-init
@@ -36,10 +36,8 @@ loop-f-preserved c =
     record {
       its_flows =
           flow_next mesh numbers c.loop-f.flows f
-          c.flow_of-flow.result.period c.flow_of-flow.result.due c.occupancy_of.result.0 c.route.result
-          (omega (arith, below, c.requires.list.flows_high)) c.loop-f.invariant.its_flows
-          (ap (λ (x : Flow). x.period) c.flow_of-flow.ensures) (ap (λ (x : Flow). x.due) c.flow_of-flow.ensures) c.occupancy_of.ensures
-          (c.route.ensures ∙ ap (λ (x : Flow). path_of (route_of mesh.columns x.source x.target)) c.flow_of-flow.ensures);
+          _ (omega (arith, below, c.requires.list.flows_high)) c.loop-f.invariant.its_flows
+          (entry_is mesh numbers f _ _ _ c.flow_of-flow.ensures c.occupancy_of.ensures c.route.ensures);
       within = omega (arith, below);
     }
 

@@ -30,12 +30,6 @@ pub overflow_mul-packets : goal.overflow_mul-packets
 unfolding flows_in flow_of
 overflow_mul-packets c = omega (arith, release_within c.loop-f.f c.requires (ap (λ (x : Flow). x.period) c.flow_of-period.ensures) c.loop-k.k c.loop-f-test.true c.loop-k-test.true, c.requires.hyper_high)
 
-pub offset_bounds-packets-at-in-loop-k : goal.offset_bounds-packets-at-in-loop-k
-offset_bounds-packets-at-in-loop-k c = omega (arith, room c)
-
-pub bounds-packets-at-in-loop-k : goal.bounds-packets-at-in-loop-k
-bounds-packets-at-in-loop-k c = omega (arith, room c)
-
 pub overflow_add-packets : goal.overflow_add-packets
 overflow_add-packets c = omega (arith, room c)
 

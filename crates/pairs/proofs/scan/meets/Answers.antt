@@ -14,7 +14,8 @@ pub returns-then-overlap : goal.returns-then-overlap
 unfolding packet_in
 returns-then-overlap c =
     let same = sym c.overlap.ensures ∙ c.if-overlap.true in
-    c.share.ensures ∙ sym (overlapping c.args.flows.now c.args.packets.now c.args.table.now c.args.a c.args.b c.requires.1 (rw (c.window_of.ensures.start, c.window_of.ensures.span, c.window_of-2.ensures.start, c.window_of-2.ensures.span) at same))
+    let shared = c.share.ensures in
+    (rw (c.flow_among-f.ensures, c.flow_among-g.ensures) at shared) ∙ sym (overlapping c.args.flows.now c.args.packets.now c.args.table.now c.args.a c.args.b c.requires.1 (rw (c.window_of.ensures.start, c.window_of.ensures.span, c.window_of-2.ensures.start, c.window_of-2.ensures.span) at same))
 
 pub returns-else-overlap : goal.returns-else-overlap
 returns-else-overlap c =

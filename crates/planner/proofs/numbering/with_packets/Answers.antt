@@ -28,5 +28,5 @@ turns-turn-requires c =
 
 pub returns : goal.returns
 returns c =
-    plan_built c.args.answer c.args.mesh c.args.numbers.now c.model_of-m.result c.turns-turn.result
-    (sym c.refusal.ensures ∙ is_accepted _ (sym c.is_err.ensures.value ∙ c.if-is_err.false)) c.model_of-m.ensures c.turns-turn.ensures
+    plan_built c.args.answer c.args.mesh c.args.numbers.now c.model_of-m.result c.flow_numbers-flow.result c.turns-turn.result
+    (sym c.refusal.ensures ∙ is_accepted _ (sym c.is_err.ensures.value ∙ c.if-is_err.false)) c.model_of-m.ensures c.flow_numbers-flow.ensures c.turns-turn.ensures

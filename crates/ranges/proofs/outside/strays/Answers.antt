@@ -11,11 +11,11 @@ use Rattle.ranges.proofs.outside.strays.Goals as goal
 
 pub overflow_add-latest : goal.overflow_add-latest
 unfolding packet_in
-overflow_add-latest c = omega (arith, c.requires.0.ready.soon c.args.p c.requires.1)
+overflow_add-latest c = rw c.flow_among-flow.ensures (omega (arith, c.requires.0.ready.soon c.args.p c.requires.1))
 
 pub overflow_sub-latest : goal.overflow_sub-latest
 unfolding packet_in
-overflow_sub-latest c = omega (arith, c.requires.0.ready.fits c.args.p c.requires.1)
+overflow_sub-latest c = rw c.flow_among-flow.ensures (omega (arith, c.requires.0.ready.fits c.args.p c.requires.1))
 
 pub returns-then-early : goal.returns-then-early
 unfolding strays time_at packet_in
@@ -23,4 +23,4 @@ returns-then-early c = lt-ltb _ _ c.if-early.true ∙ sym (early (packet_in c.ar
 
 pub returns-else-early : goal.returns-else-early
 unfolding strays time_at packet_in latest_of
-returns-else-early c = sym (by_latest (packet_in c.args.flows.now c.args.packets.now c.args.p) _ c.if-early.false)
+returns-else-early c = rw c.flow_among-flow.ensures (sym (by_latest (packet_in c.args.flows.now c.args.packets.now c.args.p) _ c.if-early.false))

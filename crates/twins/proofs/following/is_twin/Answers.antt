@@ -6,7 +6,7 @@ use lib.ListN.{get_or}
 use borrow.Author.Tests.{ne_eqb, eq-eqb}
 use Rattle.basics.specs.Choose.{both}
 use Rattle.packet.specs.Table.{none}
-use Rattle.load.specs.Load.{flow_at, span_of}
+use Rattle.load.specs.Load.{flow_at, span_of, release_at}
 use Rattle.twins.specs.Twins.{is_twin}
 use Rattle.twins.proofs.Twinning.{path_test, chain_pass, chain_fail}
 use Rattle.twins.proofs.following.is_twin.Goals.{then-taken-q, else-taken-q, then-traffic-q, else-traffic-q}
@@ -31,7 +31,7 @@ path-requires-then-traffic-other c = (c.requires.loaded.flows _ c.requires.secon
 pub returns-then-traffic-other : goal.returns-then-traffic-other
 unfolding is_twin span_of flow_at
 returns-then-traffic-other c =
-    let one : c.if-taken-q.value ≡ both (not (eqb (get_or c.args.taken.now.times c.args.q 0) none)) (eqb (get_or c.args.traffic.now.release c.args.q 0) (get_or c.args.traffic.now.release c.args.p 0)) =
+    let one : c.if-taken-q.value ≡ both (not (eqb (get_or c.args.taken.now.times c.args.q 0) none)) (eqb (release_at c.args.traffic.now c.args.q) (release_at c.args.traffic.now c.args.p)) =
     elim c.if-taken-q.branch [
       | then-taken-q w ↦ rw (ne_eqb _ _ w.if-taken-q.true) w.value-is
       | else-taken-q w ↦ rw (eq-eqb _ _ w.if-taken-q.false) (w.value-is ∙ ap not (eq-eqb _ _ w.if-taken-q.false))
@@ -46,7 +46,7 @@ returns-then-traffic-other c =
 pub returns-else-traffic-other : goal.returns-else-traffic-other
 unfolding is_twin span_of flow_at
 returns-else-traffic-other c =
-    let one : c.if-taken-q.value ≡ both (not (eqb (get_or c.args.taken.now.times c.args.q 0) none)) (eqb (get_or c.args.traffic.now.release c.args.q 0) (get_or c.args.traffic.now.release c.args.p 0)) =
+    let one : c.if-taken-q.value ≡ both (not (eqb (get_or c.args.taken.now.times c.args.q 0) none)) (eqb (release_at c.args.traffic.now c.args.q) (release_at c.args.traffic.now c.args.p)) =
     elim c.if-taken-q.branch [
       | then-taken-q w ↦ rw (ne_eqb _ _ w.if-taken-q.true) w.value-is
       | else-taken-q w ↦ rw (eq-eqb _ _ w.if-taken-q.false) (w.value-is ∙ ap not (eq-eqb _ _ w.if-taken-q.false))

@@ -10,16 +10,17 @@ use Rattle.load.specs.declared.traffic.Traffic.{Traffic}
 use Rattle.kept.specs.declared.finding.Taken.{Taken}
 use Rattle.twins.specs.Twins.{twin_at, behind, resume_at, Resume}
 use Rattle.twins.proofs.Twinning.{twin_found, twin_timed}
+use Rattle.load.specs.Entries.{nth_flow, nth_packet}
 use Rattle.twins.proofs.following.resume.Goals as goal
 
 -- a twin of packet p stands before it, starts soon, and holds its links for some cycles and not for long
 record Behind (traffic : Traffic) (taken : Taken) (p q : ℕ) : Type 0 where
   before : q < p
   number : q < 1024
-  flow : get_or traffic.flow q 0 < 64
+  flow : (nth_packet traffic.packets q).flow < 64
   soon : get_or taken.times q 0 ≤ most
-  lasting : 0 < get_or traffic.occupancy (get_or traffic.flow q 0) 0
-  short : get_or traffic.occupancy (get_or traffic.flow q 0) 0 ≤ most
+  lasting : 0 < (nth_flow traffic.flows (nth_packet traffic.packets q).flow).occupancy
+  short : (nth_flow traffic.flows (nth_packet traffic.packets q).flow).occupancy ≤ most
 
 twin_behind : {traffic : Traffic} {taken : Taken} {f p q : ℕ} → Resume traffic taken f p → {r : _} → r ≡ twin_at traffic taken p → r ≡ Some q
     → Behind traffic taken p q
