@@ -10,7 +10,7 @@ use Rattle.routes.specs.Route.{path_of}
 use Rattle.routes.specs.declared.paths.Path.{Path}
 use Rattle.packet.specs.Packet.{Packet}
 use Rattle.model.specs.Flows.{period_of, due_of, links_of_flow, occupancy_in}
-use Rattle.arrays.specs.Arrays.{flows_up_to, arrays_of}
+use Rattle.arrays.specs.Arrays.{flows_up_to, arrays_of, with_one}
 use Rattle.model.specs.declared.flows.Mesh.{Mesh}
 use Rattle.arrays.specs.declared.build.Flows.{Flows}
 use Rattle.arrays.specs.declared.build.Packets.{Packets}
@@ -60,14 +60,6 @@ stored of ps p h =
     ap (λ (k : ℕ). set (padded 1024 0 (map of ps)) k (of p)) (sym (length-map ps of))
     ∙ padded_push 1024 0 (map of ps) (of p) (omega (arith, length-map ps of))
     ∙ ap (padded 1024 0) (sym (map-append of ps (p ∷ [])))
-
--- the packets with one more
-abbrev pub with_one : Packets → ℕ → ℕ → Packets
-with_one packets flow release = record {
-  count = packets.count + 1;
-  flow = set packets.flow packets.count flow;
-  release = set packets.release packets.count release;
-}
 
 -- a packet more in the list is one more in its arrays
 pub one_more : (ps : List Packet) (p : Packet) → length ps < 1024 → with_one (arrays_of ps) p.flow p.release ≡ arrays_of (ps ++ (p ∷ []))

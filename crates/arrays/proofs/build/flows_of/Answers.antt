@@ -10,7 +10,7 @@ use Rattle.arrays.proofs.Building.{listing_none, listing_all}
 use Rattle.arrays.proofs.build.flows_of.Goals as goal
 
 pub loop-f-init : goal.loop-f-init
-loop-f-init c = listing_none _ _ _ c.no_flows-flows.ensures
+loop-f-init c = listing_none _ _ _ c.none-flows.ensures
 
 pub occupancy_of-requires : goal.occupancy_of-requires
 unfolding flows_in
