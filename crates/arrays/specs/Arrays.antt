@@ -42,6 +42,16 @@ arrays_of ps = record {
   release = padded 1024 0 (map (λ (p : Packet). p.release) ps);
 }
 
+-- the flows with one more behind them: its period, its deadline, its occupancy and its path
+abbrev pub with_flow : Flows → ℕ → ℕ → ℕ → Path → Flows
+with_flow flows period due occupancy path = record {
+  count = flows.count + 1;
+  period = set flows.period flows.count period;
+  due = set flows.due flows.count due;
+  occupancy = set flows.occupancy flows.count occupancy;
+  path = set flows.path flows.count path;
+}
+
 -- the packets with one more behind them: its flow and its release
 abbrev pub with_one : Packets → ℕ → ℕ → Packets
 with_one packets flow release = record {

@@ -4,7 +4,7 @@ ghost use Rattle.model.specs.Flows.{flows_in};
 ghost use Rattle.model.specs.Packets.{packets_of};
 ghost use Rattle.model.specs.Fair.{Fair};
 ghost use Rattle.model.specs.declared.flows.Mesh.{Mesh};
-ghost use Rattle.arrays.specs.Arrays.{Packable, no_flows, flows_up_to, arrays_of, with_one, model_of};
+ghost use Rattle.arrays.specs.Arrays.{Packable, no_flows, flows_up_to, arrays_of, with_one, with_flow, model_of};
 
 use model::{Mesh, PER_FLOW, flow_of, hyper_in, occupancy_of};
 use routes::{Path, route};
@@ -36,6 +36,18 @@ impl Flows {
             path: [no_path; 64],
         }
     }
+
+    // One flow more, behind the others.
+    fn push(&mut self, period: u32, due: u32, occupancy: u32, path: Path)
+        requires { self.old.count < 64 }
+        ensures { self.new ≡ with_flow self.old period due occupancy path }
+    {
+        self.period[self.count] = period;
+        self.due[self.count] = due;
+        self.occupancy[self.count] = occupancy;
+        self.path[self.count] = path;
+        self.count += 1;
+    }
 }
 
 // The packets of one hyper-period: flow and release of each of the first count; what follows them is 0.
@@ -63,9 +75,10 @@ impl Packets {
         requires { self.old.count < 1024 }
         ensures { self.new ≡ with_one self.old flow release }
     {
-        self.flow[self.count] = flow;
-        self.release[self.count] = release;
-        self.count += 1;
+        let at = self.count;
+        self.flow[at] = flow;
+        self.release[at] = release;
+        self.count = at + 1;
     }
 }
 
@@ -86,15 +99,13 @@ fn flows_of(mesh: Mesh, numbers: &[u32]) -> Flows
     let n = numbers.len() / PER_FLOW;
     for f in 0..n {
         let flow = flow_of(numbers, f);
-        flows.period[f] = flow.period;
-        flows.due[f] = flow.due;
-        flows.occupancy[f] = occupancy_of(mesh, numbers, f).0;
-        flows.path[f] = route(
+        let held = occupancy_of(mesh, numbers, f);
+        let path = route(
             mesh.columns as usize,
             flow.source as usize,
             flow.target as usize,
         );
-        flows.count = f + 1;
+        flows.push(flow.period, flow.due, held.0, path);
     }
     flows
 }
