@@ -10,6 +10,7 @@ use model::{Mesh, PER_FLOW, flow_of, hyper_in, occupancy_of};
 use routes::{Path, route};
 
 // The flows: period, deadline, occupancy and path of each of the first count; what follows them is 0.
+// Kept: an array for each, as the search's traffic takes each by itself (search/src/carrying.rt copies them whole).
 #[derive(Clone, Copy)]
 pub struct Flows {
     pub count: usize,
@@ -51,6 +52,7 @@ impl Flows {
 }
 
 // The packets of one hyper-period: flow and release of each of the first count; what follows them is 0.
+// Kept: an array for each, as `by_flow` of the crate order and the plan take the flows by themselves, and `fair_grouped` speaks of them.
 #[derive(Clone, Copy)]
 pub struct Packets {
     pub count: usize,
