@@ -18,10 +18,10 @@ use Rattle.model.specs.Fair.{Fair}
 use Rattle.model.specs.declared.flows.Mesh.{Mesh}
 use Rattle.model.proofs.InTime.{fair_timed, hyper_whole}
 use Rattle.model.proofs.Numbering.{packets_before, packets_grow}
-use Rattle.arrays.specs.Arrays.{Packable, no_flows, flows_up_to, arrays_of, model_of}
+use Rattle.arrays.specs.Arrays.{Packable, no_flows, flows_up_to, arrays_of, with_one, model_of}
 use Rattle.arrays.specs.declared.build.Flows.{Flows}
 use Rattle.arrays.specs.declared.build.Packets.{Packets}
-use Rattle.arrays.proofs.Filling.{with_one, one_more}
+use Rattle.arrays.proofs.Filling.{one_more}
 
 -- ---- the flows
 

@@ -10,7 +10,7 @@ use Rattle.routes.specs.Route.{path_of}
 use Rattle.routes.specs.declared.paths.Path.{Path}
 use Rattle.packet.specs.Packet.{Packet}
 use Rattle.model.specs.Flows.{period_of, due_of, links_of_flow, occupancy_in}
-use Rattle.arrays.specs.Arrays.{flows_up_to, arrays_of}
+use Rattle.arrays.specs.Arrays.{flows_up_to, arrays_of, with_flow, with_one}
 use Rattle.model.specs.declared.flows.Mesh.{Mesh}
 use Rattle.arrays.specs.declared.build.Flows.{Flows}
 use Rattle.arrays.specs.declared.build.Packets.{Packets}
@@ -26,13 +26,7 @@ pub flow_next : (mesh : Mesh) (numbers : List ℕ) (flows : Flows) (f t d o : �
     → flows ≡ flows_up_to mesh numbers f
     → t ≡ period_of numbers f → d ≡ due_of numbers f → o ≡ occupancy_in mesh numbers f
     → path ≡ path_of (links_of_flow mesh numbers f)
-    → record {
-      count = f + 1;
-      period = set flows.period f t;
-      due = set flows.due f d;
-      occupancy = set flows.occupancy f o;
-      path = set flows.path f path;
-    } ≡ flows_up_to mesh numbers (f + 1)
+    → with_flow flows t d o path ≡ flows_up_to mesh numbers (f + 1)
 unfolding flows_up_to filled
 flow_next mesh numbers flows f t d o path h e et ed eo ep =
     let p₁ = padded_next 64 0 (period_of numbers) f h (ap (λ (r : Flows). r.period) e) et in
@@ -42,7 +36,9 @@ flow_next mesh numbers flows f t d o path h e et ed eo ep =
     let f₁ = tabulate (period_of numbers) 0 (f + 1) in
     let f₂ = tabulate (due_of numbers) 0 (f + 1) in
     let f₃ = tabulate (occupancy_in mesh numbers) 0 (f + 1) in
-    ap (λ (l : List ℕ). filled (f + 1) l (set flows.due f d) (set flows.occupancy f o) (set flows.path f path)) p₁
+    let n : flows.count ≡ f = ap (λ (r : Flows). r.count) e in
+    ap (λ (k : ℕ). filled (k + 1) (set flows.period k t) (set flows.due k d) (set flows.occupancy k o) (set flows.path k path)) n
+    ∙ ap (λ (l : List ℕ). filled (f + 1) l (set flows.due f d) (set flows.occupancy f o) (set flows.path f path)) p₁
     ∙ ap (λ (l : List ℕ). filled (f + 1) (padded 64 0 f₁) l (set flows.occupancy f o) (set flows.path f path)) p₂
     ∙ ap (λ (l : List ℕ). filled (f + 1) (padded 64 0 f₁) (padded 64 0 f₂) l (set flows.path f path)) p₃
     ∙ ap (λ (l : List Path). filled (f + 1) (padded 64 0 f₁) (padded 64 0 f₂) (padded 64 0 f₃) l) p₄
@@ -60,14 +56,6 @@ stored of ps p h =
     ap (λ (k : ℕ). set (padded 1024 0 (map of ps)) k (of p)) (sym (length-map ps of))
     ∙ padded_push 1024 0 (map of ps) (of p) (omega (arith, length-map ps of))
     ∙ ap (padded 1024 0) (sym (map-append of ps (p ∷ [])))
-
--- the packets with one more
-abbrev pub with_one : Packets → ℕ → ℕ → Packets
-with_one packets flow release = record {
-  count = packets.count + 1;
-  flow = set packets.flow packets.count flow;
-  release = set packets.release packets.count release;
-}
 
 -- a packet more in the list is one more in its arrays
 pub one_more : (ps : List Packet) (p : Packet) → length ps < 1024 → with_one (arrays_of ps) p.flow p.release ≡ arrays_of (ps ++ (p ∷ []))

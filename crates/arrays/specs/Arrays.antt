@@ -1,5 +1,6 @@
 -- The flows and the packets as the code holds them: arrays of 64 and of 1,024, filled from the front.
 use Rattle.std.specs.Prelude.{◌≡◌, List, [], map, ℕ, ◌+◌, ◌/◌, ◌≤◌, ◌<◌, length, get_or}
+use lib.ListN.{set}
 use Rattle.basics.specs.Lists.{tabulate, padded}
 use Rattle.routes.specs.Route.{path_of, links_of}
 use Rattle.routes.specs.declared.paths.Path.{Path}
@@ -39,6 +40,24 @@ arrays_of ps = record {
   count = length ps;
   flow = padded 1024 0 (map (λ (p : Packet). p.flow) ps);
   release = padded 1024 0 (map (λ (p : Packet). p.release) ps);
+}
+
+-- the flows with one more behind them: its period, its deadline, its occupancy and its path
+abbrev pub with_flow : Flows → ℕ → ℕ → ℕ → Path → Flows
+with_flow flows period due occupancy path = record {
+  count = flows.count + 1;
+  period = set flows.period flows.count period;
+  due = set flows.due flows.count due;
+  occupancy = set flows.occupancy flows.count occupancy;
+  path = set flows.path flows.count path;
+}
+
+-- the packets with one more behind them: its flow and its release
+abbrev pub with_one : Packets → ℕ → ℕ → Packets
+with_one packets flow release = record {
+  count = packets.count + 1;
+  flow = set packets.flow packets.count flow;
+  release = set packets.release packets.count release;
 }
 
 -- the model as the code holds it: the hyper-period, the flows and the packets
