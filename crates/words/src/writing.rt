@@ -56,5 +56,5 @@ pub fn put_time(out: &mut [u8], at: usize, time: u32) -> usize
     if absent {
         return put_word(out, next, &NONE);
     }
-    put_number(out, next, time as u64)
+    put_number(out, next, u64::from(time))
 }
