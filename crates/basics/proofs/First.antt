@@ -2,7 +2,7 @@
 -- In order: what `first_from` does; then `first` as the rest of the house uses it (its bounds, that it passes, that none
 -- before it does, and how to show that a number is it); then `some` and `every`, each made from and taken apart;
 -- then `found`, made from and taken apart.
-use mathlib.Core.Path.{◌≡◌, refl, sym, ◌∙◌, ap}
+use mathlib.Core.Path.{◌≡◌, refl, sym, ◌∙◌, ap, ap₂}
 use mathlib.Core.Bool.{Bool, true, false, not}
 use Prim.Native.Nat.{ℕ, zero, suc, ◌+◌, ◌≤◌, ◌<◌}
 use native.Mathlib.Nat.{le_antisymm, lt_of_not-le}
@@ -182,3 +182,9 @@ found_from test low n None before none =
     sym (found_none test n (λ j h. elim (dec_le low j) [ yes l ↦ none j l h | no l ↦ before j (lt_of_not-le l) ]))
 found_from test low n (Some i) before w =
     sym (found_is test n i w.1 w.2 (λ j h. elim (dec_le low j) [ yes l ↦ w.3 j l h | no l ↦ before j (lt_of_not-le l) ]))
+
+-- two tests that agree below n find the same
+pub found_same : (f g : ℕ → Bool) (n : ℕ) → ((i : ℕ) → i < n → f i ≡ g i) → found f n ≡ found g n
+unfolding found
+found_same f g n same =
+    ap₂ (λ (b : Bool) (k : ℕ). choose b (Some k) None) (some_same f g n same) (first_same f g n same)

@@ -13,8 +13,8 @@ pub fn slacks(model: Model) -> [u64; 64]
     let due = model.flows.due;
     let occupancy = model.flows.occupancy;
     let mut key = [0u64; 64];
-    for g in 0..n {
-        key[g] = (due[g] - occupancy[g]) as u64;
+    for (g, slack) in key[..n].iter_mut().enumerate() {
+        *slack = u64::from(due[g] - occupancy[g]);
     }
     key
 }

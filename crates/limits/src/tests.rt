@@ -11,7 +11,7 @@ use model::{Mesh, PER_FLOW, flow_of, occupancy_of};
 pub fn out_of_range(low: u32, high: u32, n: u32) -> bool
     ensures { result ≡ out_of_range low high n }
 {
-    n < low || high < n
+    !(low..=high).contains(&n)
 }
 
 // 2: columns or rows outside 1 to 16; r or flit width outside 1 to 64.
@@ -31,11 +31,11 @@ pub fn bad_list(numbers: &[u32]) -> bool
     ensures { result ≡ bad_list numbers.now }
 {
     let n = numbers.len();
-    n % PER_FLOW != 0 || n / PER_FLOW < 1 || 64 < n / PER_FLOW
+    n % PER_FLOW != 0 || !(1..=64).contains(&(n / PER_FLOW))
 }
 
 // 5: source or target no node, or the two equal.
-#[tactic(auto, using(model::proofs::Near::nodes_few), unfolding(crate::specs::Limits::bad_nodes, model::specs::Flows::flow_of))]
+#[tactic(auto, unfolding(crate::specs::Limits::bad_nodes, model::specs::Flows::flow_of))]
 pub fn bad_nodes(mesh: Mesh, numbers: &[u32], f: usize) -> bool
     requires { Listed mesh numbers.now f }
     ensures { result ≡ bad_nodes mesh numbers.now f }

@@ -1,6 +1,6 @@
 -- The lowest pair that collides, as the walk over the packets finds it.
-use Rattle.std.proofs.Common.{Some, None}
-use mathlib.Core.Path.{◌≡◌, refl, ◌∙◌, ap}
+use Rattle.std.proofs.Common.{Option, Some, None}
+use mathlib.Core.Path.{◌≡◌, refl, sym, ◌∙◌, ap}
 use mathlib.Core.Bool.{false}
 use mathlib.Core.List.{List}
 use Prim.Native.Nat.{ℕ, ◌<◌}
@@ -8,7 +8,7 @@ use native.Mathlib.Omega.{arith}
 use borrow.Author.Tests.{lt-ltb}
 use Rattle.std.specs.Option.{option_map}
 use Rattle.basics.specs.First.{first, some, found}
-use Rattle.basics.proofs.First.{some_none, found_is, found_none, found_first, found_not}
+use Rattle.basics.proofs.First.{some_none, some_first, first_passes, found_is, found_none, found_first, found_not}
 use Rattle.arrays.specs.declared.build.Flows.{Flows}
 use Rattle.arrays.specs.declared.build.Packets.{Packets}
 use Rattle.pairs.specs.Scan.{meets_in, higher_in, first_pair}
@@ -35,3 +35,30 @@ module _ (flows : Flows) (packets : Packets) (table : List ℕ) where
   pub pair_none : ((k : ℕ) → k < packets.count → higher_in flows packets table k ≡ false) → first_pair flows packets table ≡ None
   unfolding first_pair
   pair_none none = rw (found_none (higher_in flows packets table) packets.count none) refl
+
+  -- a pair that is given is the first packet with a partner and its lowest partner, both of them packets
+  pub pair_is : (p : Pair) → first_pair flows packets table ≡ Some p
+      → (p.a < packets.count) × (p.b < packets.count) × (first (higher_in flows packets table) packets.count ≡ p.a) × (first (meets_in flows packets table p.a) packets.count ≡ p.b)
+  unfolding first_pair higher_in
+  pair_is p e = go (found (higher_in flows packets table) packets.count) refl e
+    where
+      go : (o : Option ℕ) → found (higher_in flows packets table) packets.count ≡ o
+          → option_map (λ x. record { a = x; b = first (meets_in flows packets table x) packets.count }) o ≡ Some p
+          → (p.a < packets.count) × (p.b < packets.count) × (first (higher_in flows packets table) packets.count ≡ p.a) × (first (meets_in flows packets table p.a) packets.count ≡ p.b)
+      go None f g = let z : ◌≡◌ {A = ℕ} 0 1 = cc in absurd (omega arith)
+      go (Some a) f g =
+          let own = found_first (higher_in flows packets table) packets.count a f in
+          let same : record { a = a; b = first (meets_in flows packets table a) packets.count } ≡ p = cc in
+          let met = some_first (meets_in flows packets table a) packets.count (ap (higher_in flows packets table) (sym own.1) ∙ first_passes (higher_in flows packets table) packets.count (omega (arith, own.0, own.1))) in
+          rw (← same) (own.0, met, own.1, refl)
+
+  -- where no pair is given no packet meets a higher one
+  pub pair_not : first_pair flows packets table ≡ None → (k : ℕ) → k < packets.count → higher_in flows packets table k ≡ false
+  unfolding first_pair
+  pair_not e = go (found (higher_in flows packets table) packets.count) refl e
+    where
+      go : (o : Option ℕ) → found (higher_in flows packets table) packets.count ≡ o
+          → option_map {U = Pair} (λ x. record { a = x; b = first (meets_in flows packets table x) packets.count }) o ≡ None
+          → (k : ℕ) → k < packets.count → higher_in flows packets table k ≡ false
+      go None f g = found_not (higher_in flows packets table) packets.count f
+      go (Some a) f g = let z : ◌≡◌ {A = ℕ} 0 1 = cc in absurd (omega arith)

@@ -6,9 +6,9 @@ ghost use Rattle.ranges.specs.Ranges.{strays, Scan};
 use arrays::{Flows, Packets};
 
 // Whether packet p may not start at its time.
-fn strays(flows: Flows, packets: Packets, table: &[u32], p: usize) -> bool
-    requires { Scan flows packets table.now × (p < packets.count) }
-    ensures { result ≡ strays flows packets table.now p }
+fn strays(flows: &Flows, packets: &Packets, table: &[u32], p: usize) -> bool
+    requires { Scan flows.now packets.now table.now × (p < packets.now.count) }
+    ensures { result ≡ strays flows.now packets.now table.now p }
 {
     let f = packets.flow[p] as usize;
     let release = packets.release[p];
@@ -24,5 +24,5 @@ pub fn first_outside(flows: Flows, packets: Packets, table: &[u32]) -> Option<us
     requires { Scan flows packets table.now }
     ensures { result ≡ found (strays flows packets table.now) packets.count }
 {
-    (0..packets.count).find(|&p| strays(flows, packets, table, p))
+    (0..packets.count).find(|&p| strays(&flows, &packets, table, p))
 }

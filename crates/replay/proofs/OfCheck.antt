@@ -1,31 +1,30 @@
 -- Demand 3 for the check itself: of a model that is not refused and a table long enough for it.
 -- In order: number 0 is that the table passes; then the equivalence with replay, what receivers see, and that a refusal 11 or 12
 -- names a fault that replay over one hyper-period shows.
-use mathlib.Core.Path.{◌≡◌, sym, ◌∙◌, ap}
-use mathlib.Core.Bool.{true, not}
+use mathlib.Core.Path.{◌≡◌, refl, sym, ◌∙◌, ap, subst}
+use mathlib.Core.Bool.{Bool, true, not}
 use mathlib.Core.Logic.{◌↔◌}
 use mathlib.Core.List.{List}
 use Prim.Native.Nat.{ℕ, ◌≤◌, ◌<◌}
-use native.Mathlib.Nat.{lt_of_not-le}
-use native.Mathlib.Decide.{dec_le}
 use native.Mathlib.Omega.{arith}
 use lib.ListN.{length}
-use borrow.Author.Tests.{le-ltb, ltb-false, not-true}
-use Rattle.basics.specs.First.{first, some}
-use Rattle.basics.proofs.Choose.{both_pass, both_first, both_second}
-use Rattle.basics.proofs.First.{first_passes, some_first}
+use Rattle.std.specs.Prelude.{Option, Some, None}
+use Rattle.basics.specs.First.{first, found}
+use Rattle.basics.proofs.Choose.{both_pass}
+use Rattle.basics.proofs.First.{first_passes, some_first, some_none, found_first, found_not}
 use Rattle.packet.specs.Packet.{Packet}
 use Rattle.packet.specs.Table.{outside, meets, meets_higher, passes}
 use Rattle.model.specs.Flows.{period_of, flows_in}
 use Rattle.model.specs.Packets.{hyper_in, turns_in, packets_of}
 use Rattle.refusals.specs.Refusals.{accepted}
-use Rattle.model.specs.Answers.{refused_by}
+use Rattle.model.specs.Answers.{refusal_number, refusal_place, refusal_other, refused_by, answer_by}
 use Rattle.model.specs.Fair.{Fair}
 use Rattle.model.specs.declared.flows.Mesh.{Mesh}
 use Rattle.model.specs.declared.answers.Answer.{Answer}
+use Rattle.model.specs.declared.answers.Refusal.TheVariants.{Outside, Collision}
 use Rattle.refusals.proofs.Accepted.{accepted_fair}
-use Rattle.audit.specs.Check.{collided, passed_with, first_meeting, verdict_of, check_of}
-use Rattle.audit.proofs.Cases.{check_long, verdict_11, verdict_12, verdict_0}
+use Rattle.audit.proofs.Cases.{check_long}
+use Rattle.audit.specs.Check.{passed_with, verdict_by, first_meeting, verdict_of, check_of}
 use Rattle.replay.specs.Replay.{Stray, Clash}
 use Rattle.replay.specs.Demand.{Offered, Replays, Received}
 use Rattle.replay.proofs.Fault.{fault_11, fault_12}
@@ -35,80 +34,72 @@ use Rattle.replay.proofs.OfModel.{model_sound, model_periodic}
 
 -- ---- number 0 is that the table passes
 
+-- a number that is found is below n, and passes
+found_passes : (test : ℕ → Bool) (n i : ℕ) → found test n ≡ Some i → (i < n) × (test i ≡ true)
+found_passes test n i e =
+    let w = found_first test n i e in
+    (w.0, subst (λ (k : ℕ). test k ≡ true) w.1 (first_passes test n (omega (arith, w.0, w.1))))
+
 module _ (hyper : ℕ) (ps : List Packet) (table : List ℕ) where
-  -- where no packet is out of range and none meets a higher one, the table passes
-  none_passes : length ps ≤ first (outside ps table) (length ps) → length ps ≤ first_meeting ps table → passes ps table ≡ true
-  unfolding passes some first_meeting
-  none_passes h k = both_pass _ _ (ap not (le-ltb _ _ h)) (ap not (le-ltb _ _ k))
-
-  -- in a passed table no packet is out of range
-  passes_inside : passes ps table ≡ true → length ps ≤ first (outside ps table) (length ps)
-  unfolding passes some
-  passes_inside e = ltb-false _ _ (not-true _ (both_first _ _ e))
-
-  -- in a passed table no packet meets a higher one
-  passes_alone : passes ps table ≡ true → length ps ≤ first_meeting ps table
-  unfolding passes some first_meeting
-  passes_alone e = ltb-false _ _ (not-true _ (both_second (not (some (outside ps table) (length ps))) _ e))
+  -- the answer of the verdict
+  abbrev answer : Answer
+  answer = answer_by (verdict_of hyper ps table)
 
   -- what a verdict is, by its three cases
   data Verdict : Type 0 where
-    is_11 : first (outside ps table) (length ps) < length ps
-        → verdict_of hyper ps table ≡ refused_by (record { number = 11; place = first (outside ps table) (length ps) }) → Verdict
-    is_12 : first_meeting ps table < length ps
-        → verdict_of hyper ps table ≡ collided (first_meeting ps table) (first (meets ps table (first_meeting ps table)) (length ps)) → Verdict
-    is_0 : passes ps table ≡ true → verdict_of hyper ps table ≡ passed_with hyper (length ps) → Verdict
+    is_11 : (p : ℕ) → found (outside ps table) (length ps) ≡ Some p → answer ≡ refused_by (Outside p) → Verdict
+    is_12 : (a : ℕ) → found (meets_higher ps table) (length ps) ≡ Some a
+        → answer ≡ refused_by (Collision a (first (meets ps table a) (length ps))) → Verdict
+    is_0 : found (outside ps table) (length ps) ≡ None → found (meets_higher ps table) (length ps) ≡ None
+        → answer ≡ passed_with hyper (length ps) → Verdict
 
   -- every verdict is one of the three
   verdict : Verdict
-  verdict =
-      elim (dec_le (length ps) (first (outside ps table) (length ps))) [
-        | no k ↦ is_11 (lt_of_not-le k) (verdict_11 hyper ps table (lt_of_not-le k))
-        | yes k ↦ elim (dec_le (length ps) (first_meeting ps table)) [
-          | no l ↦ is_12 (lt_of_not-le l) (verdict_12 hyper ps table k (lt_of_not-le l))
-          | yes l ↦ is_0 (none_passes k l) (verdict_0 hyper ps table k l)
-        ]
-      ]
+  unfolding verdict_of verdict_by first_meeting
+  verdict = go (found (outside ps table) (length ps)) refl (found (meets_higher ps table) (length ps)) refl
+    where
+      go : (x : Option ℕ) → found (outside ps table) (length ps) ≡ x → (y : Option ℕ) → found (meets_higher ps table) (length ps) ≡ y → Verdict
+      go (Some p) d y e = is_11 p d (rw d)
+      go None d (Some a) e = is_12 a e (rw (d, e))
+      go None d None e = is_0 d e (rw (d, e))
 
   -- the number of a verdict
-  numbered : {n : ℕ} {a : Answer} → (verdict_of hyper ps table).number ≡ n → verdict_of hyper ps table ≡ a → a.number ≡ n
+  numbered : {n : ℕ} {a : Answer} → answer.number ≡ n → answer ≡ a → a.number ≡ n
   numbered e v = sym (ap (λ (x : Answer). x.number) v) ∙ e
 
   -- number 0: the table passes
-  pub zero_passes : (verdict_of hyper ps table).number ≡ 0 → passes ps table ≡ true
-  unfolding refused_by collided
+  pub zero_passes : answer.number ≡ 0 → passes ps table ≡ true
+  unfolding refused_by refusal_number passes
   zero_passes e = elim verdict [
-    | is_11 h v ↦ absurd (omega (arith, numbered e v))
-    | is_12 h v ↦ absurd (omega (arith, numbered e v))
-    | is_0 p v ↦ p
+    | is_11 p d v ↦ absurd (omega (arith, numbered e v))
+    | is_12 a d v ↦ absurd (omega (arith, numbered e v))
+    | is_0 d m v ↦
+        both_pass _ _ (ap not (some_none (outside ps table) (length ps) (found_not _ _ d))) (ap not (some_none (meets_higher ps table) (length ps) (found_not _ _ m)))
   ]
 
   -- a table that passes: number 0
-  pub passes_zero : passes ps table ≡ true → (verdict_of hyper ps table).number ≡ 0
-  unfolding passed_with
-  passes_zero e = ap (λ (x : Answer). x.number) (verdict_0 hyper ps table (passes_inside e) (passes_alone e))
+  pub passes_zero : passes ps table ≡ true → answer.number ≡ 0
+  unfolding passes found verdict_of verdict_by first_meeting passed_with
+  passes_zero e = grind arith
 
   -- number 11: the place is a packet out of its range
-  pub eleven_outside : (verdict_of hyper ps table).number ≡ 11
-      → ((verdict_of hyper ps table).place < length ps) × (outside ps table (verdict_of hyper ps table).place ≡ true)
-  unfolding refused_by collided passed_with
+  pub eleven_outside : answer.number ≡ 11 → (answer.place < length ps) × (outside ps table answer.place ≡ true)
+  unfolding refused_by refusal_number refusal_place passed_with
   eleven_outside e = elim verdict [
-    | is_11 h v ↦ rw (ap (λ (x : Answer). x.place) v) (h, first_passes (outside ps table) (length ps) h)
-    | is_12 h v ↦ absurd (omega (arith, numbered e v))
-    | is_0 p v ↦ absurd (omega (arith, numbered e v))
+    | is_11 p d v ↦ rw (ap (λ (x : Answer). x.place) v) (found_passes (outside ps table) (length ps) p d)
+    | is_12 a d v ↦ absurd (omega (arith, numbered e v))
+    | is_0 d m v ↦ absurd (omega (arith, numbered e v))
   ]
 
   -- number 12: the place is a packet that meets the other
-  pub twelve_meets : (verdict_of hyper ps table).number ≡ 12
-      → ((verdict_of hyper ps table).other < length ps) × (meets ps table (verdict_of hyper ps table).place (verdict_of hyper ps table).other ≡ true)
-  unfolding refused_by collided passed_with first_meeting meets_higher
+  pub twelve_meets : answer.number ≡ 12 → (answer.other < length ps) × (meets ps table answer.place answer.other ≡ true)
+  unfolding refused_by refusal_number refusal_place refusal_other passed_with meets_higher
   twelve_meets e = elim verdict [
-    | is_11 h v ↦ absurd (omega (arith, numbered e v))
-    | is_12 h v ↦
-        let a = first_meeting ps table in
-        let l = some_first (meets ps table a) (length ps) (first_passes (meets_higher ps table) (length ps) h) in
+    | is_11 p d v ↦ absurd (omega (arith, numbered e v))
+    | is_12 a d v ↦
+        let l = some_first (meets ps table a) (length ps) (found_passes (meets_higher ps table) (length ps) a d).1 in
         rw (ap (λ (x : Answer). x.place) v, ap (λ (x : Answer). x.other) v) (l, first_passes (meets ps table a) (length ps) l)
-    | is_0 p v ↦ absurd (omega (arith, numbered e v))
+    | is_0 d m v ↦ absurd (omega (arith, numbered e v))
   ]
 
 -- ---- demand 3
@@ -119,7 +110,7 @@ module _ (mesh : Mesh) (numbers table : List ℕ) (offered : Offered mesh number
   fair = accepted_fair mesh accepted numbers offered.not_refused
 
   -- its check is the verdict of its packets
-  judged : check_of mesh numbers table ≡ verdict_of (hyper_in numbers) (packets_of mesh numbers) table
+  judged : check_of mesh numbers table ≡ answer_by (verdict_of (hyper_in numbers) (packets_of mesh numbers) table)
   judged = check_long mesh numbers fair table offered.long_enough
 
   -- number 0 of the check is that the table passes

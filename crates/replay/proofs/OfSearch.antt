@@ -1,21 +1,19 @@
 -- Demand 3 for the search: every search reported complete gives a table that passes the check, and so replays for every number of
 -- hyper-periods, with every receiver seeing its own packets.
 use mathlib.Core.Path.{◌≡◌, refl, ap}
-use mathlib.Core.Bool.{Bool, true, false}
+use Rattle.std.specs.Prelude.{Ok, Err}
 use mathlib.Core.List.{List, ◌++◌}
 use Prim.Native.Nat.{ℕ, ◌≤◌}
 use native.Mathlib.Omega.{arith}
-use lib.Dec.{eqb}
 use lib.ListN.{length, drop, length-append}
-use borrow.Author.Tests.{eqb-true, eq-eqb}
 use Rattle.model.specs.Packets.{packets_in, packets_of}
-use Rattle.model.specs.Answers.{refused_by}
+use Rattle.model.specs.Answers.{refused_by, refusal_number}
 use Rattle.model.specs.Fair.{Fair}
 use Rattle.model.specs.declared.flows.Mesh.{Mesh}
-use Rattle.model.specs.declared.answers.Refusal.{Refusal}
 use Rattle.refusals.proofs.Accepted.{accepted_fair, fair_accepted}
 use Rattle.model.proofs.Numbering.{packets_length}
-use Rattle.refusals.proofs.Order.{or_none}
+use Rattle.model.proofs.Refusing.{number_low}
+use Rattle.refusals.specs.Refusals.{Tested, accepted}
 use Rattle.audit.specs.Check.{check_of}
 use Rattle.keys.specs.Slack.{slack_at}
 use Rattle.passes.proofs.Complete.{search_length}
@@ -27,29 +25,28 @@ use Rattle.replay.proofs.OfCheck.{check_passes, passed_is_each_replay, passed_is
 
 module _ (mesh : Mesh) (f g : ℕ) (numbers table : List ℕ) (complete : (answer_of mesh f g numbers table).number ≡ 0) where
   -- number 0 is given by no refusal
-  taken : (search_refusal mesh f g numbers table).number ≡ 0
+  taken : search_refusal mesh f g numbers table ≡ accepted
   unfolding answer_of refused_by
-  taken = go (eqb (search_refusal mesh f g numbers table).number 0) refl complete
+  taken = go (search_refusal mesh f g numbers table) refl complete
     where
-      go : (b : Bool) → eqb (search_refusal mesh f g numbers table).number 0 ≡ b → (answer_of mesh f g numbers table).number ≡ 0
-          → (search_refusal mesh f g numbers table).number ≡ 0
-      go true t z = eqb-true _ 0 t
-      go false t z = rw (t, answer_of) at z
+      go : (t : Tested) → search_refusal mesh f g numbers table ≡ t → (answer_of mesh f g numbers table).number ≡ 0 → t ≡ accepted
+      go (Ok x) e z = refl
+      go (Err r) e z = absurd (let n : ◌≡◌ {A = ℕ} (refusal_number r) 0 = rw e at z in omega (arith, number_low r))
 
   -- the model has every number in its range
   fair : Fair mesh numbers
   unfolding search_refusal
-  fair = accepted_fair mesh (settings_refusal f g) numbers (or_none _ _ taken).0
+  fair = accepted_fair mesh (settings_refusal f g) numbers (let e = taken in grind arith)
 
   -- the search fills the front of the lent table, and the rest stays
   table_is : table_after mesh f g numbers table ≡ (search_of (packets_of mesh numbers) f g).table ++ drop (packets_in numbers) table
   unfolding table_after
-  table_is = rw (eq-eqb (search_refusal mesh f g numbers table).number 0 taken, table_after)
+  table_is = rw taken
 
   -- the table is long enough for its model
   complete_offered : Offered mesh numbers (table_after mesh f g numbers table)
   complete_offered = record {
-    not_refused = ap (λ (r : Refusal). r.number) (fair_accepted mesh numbers fair);
+    not_refused = fair_accepted mesh numbers fair;
     long_enough =
         omega (
           arith,

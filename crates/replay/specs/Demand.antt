@@ -9,7 +9,7 @@ use Rattle.replay.specs.Receiver.{periods_over, SeesOwn}
 
 -- a model that is not refused, and a table long enough for it
 pub record Offered (mesh : Mesh) (numbers table : List ℕ) : Type 0 where
-  pub not_refused : (refusal_of mesh accepted numbers).number ≡ 0
+  pub not_refused : refusal_of mesh accepted numbers ≡ accepted
   pub long_enough : packets_in numbers ≤ length table
 
 -- replay of the table over N hyper-periods never shows two packets holding one link in one cycle, nor a packet holding a link

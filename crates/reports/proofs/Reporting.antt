@@ -1,76 +1,126 @@
 -- The table written and counted, as the code does it.
+use Rattle.std.proofs.Common.{Option, Some, None}
 use mathlib.Core.Path.{◌≡◌, refl, sym, ◌∙◌, ap}
 use mathlib.Core.Bool.{Bool, true, false, not}
-use mathlib.Core.List.{List, [], ◌∷◌, ◌++◌}
-use Prim.Native.Nat.{ℕ, zero, suc, ◌+◌, ◌<◌}
-use native.Mathlib.Nat.{not-suc-le-zero, le_of_suc-le-suc}
+use mathlib.Core.List.{List}
+use Prim.Native.Nat.{ℕ, zero, suc, ◌+◌, ◌≤◌, ◌<◌}
+use native.Mathlib.Nat.{add-zero}
 use native.Mathlib.Numerals.{add-one}
 use native.Mathlib.Omega.{arith}
-use lib.ListN.{length, get_or, set, take, drop}
-use lib.Seq.{take-suc, drop-cons, set_at, append_snoc, length-take-le}
-use borrow.Author.Tests.{eq-eqb, ne_eqb}
-use Rattle.basics.specs.First.{first}
-use Rattle.basics.specs.Sums.{count_of}
+use lib.Dec.{eqb}
+use lib.ListN.{length, get_or, take}
+use lib.Seq.{length-take-le}
+use borrow.Author.Tests.{ne_eqb}
+use Rattle.std.specs.List.{count_by, AllWithin, HoldsAt}
+use Rattle.std.specs.Option.{MatchOption}
+use Rattle.std.proofs.lemmas.List.{take_all, get_or-take}
+use Rattle.std.proofs.lemmas.List.Sums.{count_by_more_yes, count_by_more_no}
+use Rattle.basics.specs.Choose.{as_number}
+use Rattle.basics.specs.First.{found}
+use Rattle.basics.proofs.First.{first_passes, found_from, found_first, found_not, found_same}
+use Rattle.basics.specs.Sums.{sum_of, count_of}
+use Rattle.basics.proofs.Sums.{sum_part, count_same}
 use Rattle.packet.specs.Table.{none, placed}
 use Rattle.passes.specs.declared.repeat.Outcome.{Outcome}
 use Rattle.reports.specs.Reports.{number_for, place_for, report_of}
 
--- the first p places are written
-pub copied : (times table : List ℕ) (p : ℕ) → p < length times → p < length table
-    → set (take p times ++ drop p table) p (get_or times p 0) ≡ take (p + 1) times ++ drop (p + 1) table
-copied times table p h k =
-    ap (λ (l : List ℕ). set (take p times ++ l) p (get_or times p 0)) (drop-cons table p 0 k)
-    ∙ set_at (take p times) (get_or table p 0) (drop (suc p) table) (get_or times p 0) p (length-take-le p times (omega arith))
-    ∙ sym (append_snoc (take p times) (get_or times p 0) (drop (suc p) table))
-    ∙ ap (λ (l : List ℕ). l ++ drop (suc p) table) (sym (take-suc times p 0 h))
-    ∙ ap (λ (m : ℕ). take m times ++ drop m table) (sym (add-one p))
+-- a packet is not placed where its place holds 4,294,967,295
+pub unplaced : (times : List ℕ) (p : ℕ) → not (placed times p) ≡ eqb (get_or times p none) none
+unfolding placed
+unplaced times p = go (eqb (get_or times p none) none)
+  where
+    go : (b : Bool) → not (not b) ≡ b
+    go true = refl
+    go false = refl
 
--- what stands at a place of a list does not depend on what it reads as past its end
-pub get_d_any : (l : List ℕ) (i a b : ℕ) → i < length l → get_or l i a ≡ get_or l i b
-get_d_any [] i a b h = absurd (not-suc-le-zero h)
-get_d_any (x ∷ l) zero a b h = refl
-get_d_any (x ∷ l) (suc i) a b h = get_d_any l i a b (le_of_suc-le-suc h)
+-- the places of the first i packets that hold it are those of the packets that are not placed
+counted_to : (times : List ℕ) (i : ℕ) → i ≤ length times → count_by (λ t. eqb t none) (take i times) ≡ count_of (λ p. not (placed times p)) i
+unfolding count_of sum_of
+counted_to times zero h = refl
+counted_to times (suc i) h = go (eqb (get_or times i none) none) refl (counted_to times i (omega arith))
+  where
+    go : (b : Bool) → eqb (get_or times i none) none ≡ b → count_by (λ t. eqb t none) (take i times) ≡ count_of (λ p. not (placed times p)) i
+        → count_by (λ t. eqb t none) (take (suc i) times) ≡ sum_of (λ p. as_number (not (placed times p))) i + as_number (not (placed times i))
+    go true e before = rw (unplaced times i, e, ← add-one i) (count_by_more_yes (λ t. eqb t none) times i none (omega arith) e ∙ ap (λ (n : ℕ). n + 1) before)
+    go false e before = rw (unplaced times i, e, ← add-one i, add-zero) (count_by_more_no (λ t. eqb t none) times i none (omega arith) e ∙ before)
 
-module _ (times : List ℕ) (p : ℕ) (h : p < length times) where
-  -- a place that holds 4,294,967,295 is of a packet that is not placed
-  pub not_placed : get_or times p 0 ≡ none → not (placed times p) ≡ true
-  unfolding placed
-  not_placed e = ap (λ (b : Bool). not (not b)) (eq-eqb (get_or times p none) none (get_d_any times p none 0 h ∙ e))
+-- so all that hold it are all packets that are not placed
+pub counted : (times : List ℕ) → count_by (λ t. eqb t none) times ≡ count_of (λ p. not (placed times p)) (length times)
+counted times =
+    ap (count_by (λ t. eqb t none)) (sym (take_all (length times) times (omega arith))) ∙ counted_to times (length times) (omega arith)
 
-  -- and no other is
-  pub is_placed : (get_or times p 0 ≡ none → ⊥) → not (placed times p) ≡ false
-  unfolding placed
-  is_placed e = ap (λ (b : Bool). not (not b)) (ne_eqb (get_or times p none) none (λ z. e (sym (get_d_any times p none 0 h) ∙ z)))
+-- the place that a search over the places gives is the lowest packet that is not placed
+pub lowest : (times : List ℕ) (r : Option ℕ)
+    → MatchOption r (AllWithin (λ t. eqb t none ≡ false) times 0 (length times))
+    (λ i. (i < length times) × HoldsAt (λ t. eqb t none ≡ true) times i × AllWithin (λ t. eqb t none ≡ false) times 0 i)
+    → r ≡ found (λ p. not (placed times p)) (length times)
+lowest times None all = found_from (λ p. not (placed times p)) 0 (length times) None (λ j h. absurd (omega arith)) (λ j l h. unplaced times j ∙ all j none l h)
+lowest times (Some i) w =
+    found_from (λ p. not (placed times p)) 0 (length times) (Some i) (λ j h. absurd (omega arith))
+    (omega arith, w.0, unplaced times i ∙ w.1 none, λ j l h. unplaced times j ∙ w.2 j none l h)
+
+-- ---- of the first n places of a table
+
+module _ (times : List ℕ) (n : ℕ) (whole : n ≤ length times) where
+  -- they read as all do
+  taken : (p : ℕ) → p < length (take n times) → not (placed (take n times) p) ≡ not (placed times p)
+  taken p h =
+      unplaced (take n times) p ∙ ap (λ (t : ℕ). eqb t none) (get_or-take n times p none (omega (arith, length-take-le n times whole))) ∙ sym (unplaced times p)
+
+  -- the packets counted in them are the first n that are not placed
+  pub count_taken : count_of (λ p. not (placed (take n times) p)) (length (take n times)) ≡ count_of (λ p. not (placed times p)) n
+  count_taken =
+      count_same (λ p. not (placed (take n times) p)) (λ p. not (placed times p)) (length (take n times)) taken
+      ∙ ap (count_of (λ p. not (placed times p))) (length-take-le n times whole)
+
+  -- and the one found in them is the lowest of those
+  pub found_taken : found (λ p. not (placed (take n times) p)) (length (take n times)) ≡ found (λ p. not (placed times p)) n
+  found_taken =
+      found_same (λ p. not (placed (take n times) p)) (λ p. not (placed times p)) (length (take n times)) taken
+      ∙ ap (found (λ p. not (placed times p))) (length-take-le n times whole)
 
 -- ---- the answer
 
-module _ (found : Outcome) (hyper n skipped : ℕ) (e : skipped ≡ count_of (λ p. not (placed found.times p)) n) where
+-- where none passes a test, none is counted
+count_zero : (test : ℕ → Bool) (n : ℕ) → ((j : ℕ) → j < n → test j ≡ false) → count_of test n ≡ 0
+unfolding count_of sum_of
+count_zero test zero none = refl
+count_zero test (suc n) none = omega (arith, count_zero test n (λ j h. none j (omega arith)), ap as_number (none n (omega arith)))
+
+module _ (found_now : Outcome) (hyper n skipped : ℕ) (e : skipped ≡ count_of (λ p. not (placed found_now.times p)) n) where
   -- none is skipped
-  pub report_none : skipped ≡ 0 → record {
+  pub report_none : found (λ p. not (placed found_now.times p)) n ≡ None → record {
     number = 0;
     place = 0;
     other = 0;
     hyper = hyper;
     packets = n;
-    passes = found.passes;
-    tries = found.tries;
-    skipped = 0;
+    passes = found_now.passes;
+    tries = found_now.tries;
+    skipped = skipped;
   }
-      ≡ report_of found hyper n
+      ≡ report_of found_now hyper n
   unfolding report_of number_for place_for
-  report_none z = sym (rw (sym e ∙ z) refl)
+  report_none f =
+      let z = count_zero (λ p. not (placed found_now.times p)) n (found_not (λ p. not (placed found_now.times p)) n f) in
+      rw (e, z) refl
 
   -- some are
-  pub report_some : (lowest : ℕ) → lowest ≡ first (λ p. not (placed found.times p)) n → (skipped ≡ 0 → ⊥) → record {
+  pub report_some : (low : ℕ) → found (λ p. not (placed found_now.times p)) n ≡ Some low → record {
     number = 13;
-    place = lowest;
+    place = low;
     other = 0;
     hyper = hyper;
     packets = n;
-    passes = found.passes;
-    tries = found.tries;
+    passes = found_now.passes;
+    tries = found_now.tries;
     skipped = skipped;
   }
-      ≡ report_of found hyper n
-  unfolding report_of number_for place_for
-  report_some lowest l z = sym (rw (sym e, sym l, ne_eqb skipped 0 z) refl)
+      ≡ report_of found_now hyper n
+  unfolding report_of number_for place_for count_of
+  report_some low f =
+      let test : ℕ → Bool = λ p. not (placed found_now.times p) in
+      let own = found_first test n low f in
+      let one : test low ≡ true = ap test (sym own.1) ∙ first_passes test n (omega (arith, own.0, own.1)) in
+      let z : skipped ≡ 0 → ⊥ = λ z. omega (arith, e, z, ap as_number one, sum_part (λ i. as_number (test i)) low n own.0) in
+      sym (rw (sym e, own.1, ne_eqb skipped 0 z) refl)

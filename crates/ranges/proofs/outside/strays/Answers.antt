@@ -19,8 +19,8 @@ overflow_sub-latest c = omega (arith, c.requires.0.ready.fits c.args.p c.require
 
 pub returns-then-early : goal.returns-then-early
 unfolding strays time_at packet_in
-returns-then-early c = lt-ltb _ _ c.if-early.true ∙ sym (early (packet_in c.args.flows c.args.packets c.args.p) _ c.if-early.true)
+returns-then-early c = lt-ltb _ _ c.if-early.true ∙ sym (early (packet_in c.args.flows.now c.args.packets.now c.args.p) _ c.if-early.true)
 
 pub returns-else-early : goal.returns-else-early
 unfolding strays time_at packet_in latest_of
-returns-else-early c = sym (by_latest (packet_in c.args.flows c.args.packets c.args.p) _ c.if-early.false)
+returns-else-early c = sym (by_latest (packet_in c.args.flows.now c.args.packets.now c.args.p) _ c.if-early.false)

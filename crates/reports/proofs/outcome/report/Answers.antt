@@ -1,36 +1,30 @@
 -- `report` writes the table and counts what is not placed; none is 0, some is 13.
-use Prim.Native.Nat.{ℕ}
-use mathlib.Core.Bool.{not}
-use Rattle.basics.proofs.First.{first_le}
-use Rattle.packet.specs.Table.{placed}
-use Rattle.reports.proofs.Reporting.{report_none, report_some}
+use mathlib.Core.Path.{sym, ◌∙◌, ap}
+use mathlib.Core.List.{List, ◌++◌}
+use Prim.Native.Nat.{ℕ, ◌≤◌}
 use native.Mathlib.Omega.{arith}
+use lib.ListN.{length, drop}
+use Rattle.basics.proofs.First.{found_first}
+use Rattle.reports.proofs.Reporting.{count_taken, found_taken, report_none, report_some}
+use Rattle.reports.proofs.outcome.report.Goals.{in-None, in-Some}
 use Rattle.reports.proofs.outcome.report.Goals as goal
 
-pub write-requires : goal.write-requires
-write-requires c = (c.requires.0, omega (arith, c.requires.1), omega (arith, c.requires.2))
-
-pub skipped_in-skipped-requires : goal.skipped_in-skipped-requires
-skipped_in-skipped-requires c = (c.requires.0, c.requires.1)
-
-pub lowest_in-lowest-requires : goal.lowest_in-lowest-requires
-lowest_in-lowest-requires c = (c.requires.0, c.requires.1)
-
-pub overflow_cast-result : goal.overflow_cast-result
-overflow_cast-result c = omega (arith, c.requires.1)
-
-pub returns-then-skipped-eq0 : goal.returns-then-skipped-eq0
-returns-then-skipped-eq0 c =
-    let a = c.args in
-    (report_none a.found a.hyper a.n c.skipped_in-skipped.result c.skipped_in-skipped.ensures c.if-skipped-eq0.true, c.write.ensures)
-
-pub overflow_cast-result-2 : goal.overflow_cast-result-2
-overflow_cast-result-2 c = omega (arith, c.lowest_in-lowest.ensures, first_le (λ (p : ℕ). not (placed c.args.found.times p)) c.args.n, c.requires.1)
-
-pub overflow_cast-result-3 : goal.overflow_cast-result-3
-overflow_cast-result-3 c = omega (arith, c.requires.1)
+pub overflow_cast-number : goal.overflow_cast-number
+overflow_cast-number c =
+    let is = sym (found_taken c.args.found.times c.args.n (omega (arith, c.requires.0, c.requires.1))) ∙ sym c.in-Some.ensures in
+    omega (arith, (found_first _ _ _ is).0, c.requires.1)
 
 pub returns : goal.returns
 returns c =
-    let a = c.args in
-    (report_some a.found a.hyper a.n c.skipped_in-skipped.result c.skipped_in-skipped.ensures c.lowest_in-lowest.result c.lowest_in-lowest.ensures c.if-skipped-eq0.false, c.write.ensures)
+    let times = c.args.found.times in
+    let whole : c.args.n ≤ length times = omega (arith, c.requires.0, c.requires.1) in
+    let counted = c.skipped_in-skipped.ensures ∙ count_taken times c.args.n whole in
+    let written = ap (λ (xs : List ℕ). xs ++ drop c.args.n c.args.table.now) c.copy_from_slice.ensures.after in
+    elim c.match-lowest_in.branch [
+      | in-None w ↦
+          rw w.number-is
+          (report_none c.args.found c.args.hyper c.args.n _ counted (sym (found_taken times c.args.n whole) ∙ sym w.in-None.ensures), written)
+      | in-Some w ↦
+          rw w.number-is
+          (report_some c.args.found c.args.hyper c.args.n _ counted _ (sym (found_taken times c.args.n whole) ∙ sym w.in-Some.ensures), written)
+    ]
