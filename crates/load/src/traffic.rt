@@ -6,6 +6,7 @@ use routes::Path;
 
 // The packets, with the flow and the release of each of the first count; the flows, with occupancy, D and path of each, and how many
 // packets before each of its own a twin may stand, if there is one; and the longest occupancy. What follows them is 0.
+// Kept: one array for each column, as the model has them, from which they are copied whole.
 #[derive(Clone, Copy)]
 pub struct Traffic {
     pub count: usize,
