@@ -21,10 +21,10 @@ use Rattle.model.specs.Fair.{Fair}
 use Rattle.model.specs.declared.flows.Mesh.{Mesh}
 use Rattle.model.proofs.InTime.{fair_timed, hyper_whole}
 use Rattle.model.proofs.Numbering.{packets_before, packets_grow}
-use Rattle.arrays.specs.Arrays.{Packable, no_flows, entry_of_flow, flows_up_to, arrays_of, model_of}
+use Rattle.arrays.specs.Arrays.{Packable, no_flows, entry_of_flow, flows_up_to, entry_of_packet, arrays_of, with_one, model_of}
 use Rattle.arrays.specs.declared.build.Flows.{Flows}
 use Rattle.arrays.specs.declared.build.Packets.{Packets}
-use Rattle.arrays.proofs.Filling.{with_one, one_more}
+use Rattle.arrays.proofs.Filling.{one_more}
 
 -- ---- the flows
 
@@ -122,15 +122,15 @@ module _ {numbers : List ℕ} {packets : Packets} {f k : ℕ} (packing : Packing
     packing_room = omega (arith, packing.counted, turns_are f asked ep, sum_part (turns_in numbers) f (flows_in numbers) below, asked.packets_high)
 
     -- with one more packet the next of the flow is due
-    pub packing_turn : Packing numbers (with_one packets f (k * period)) f (k + 1)
-    unfolding before packet_of
+    pub packing_turn : Packing numbers (with_one packets (record { flow = f; release = k * period })) f (k + 1)
+    unfolding before packet_of entry_of_packet
     packing_turn = record {
       its_packets = λ mesh.
           let ps = before mesh numbers f k in
           let own = tabulate (packet_of mesh numbers f) 0 k in
           let p = packet_of mesh numbers f k in
           let len : length ps ≡ packets.count = omega (arith, packing.counted, packets_before mesh numbers f, tabulate_length (packet_of mesh numbers f) 0 k, length-append (packets_from mesh numbers 0 f) own) in
-          ap₂ (λ (a : Packets) (T : ℕ). with_one a f (k * T)) (packing.its_packets mesh) ep
+          ap₂ (λ (a : Packets) (T : ℕ). with_one a (record { flow = f; release = k * T })) (packing.its_packets mesh) ep
           ∙ one_more ps p (omega (arith, packing_room))
           ∙ ap arrays_of (append_assoc (packets_from mesh numbers 0 f) own (p ∷ []))
           ∙ ap (λ (i : ℕ). arrays_of (packets_from mesh numbers 0 f ++ (own ++ (packet_of mesh numbers f i ∷ [])))) (sym (zero-add k))

@@ -1,5 +1,6 @@
 -- The flows and the packets as the code holds them: arrays of 64 and of 1,024, filled from the front.
 use Rattle.std.specs.Prelude.{◌≡◌, List, [], map, ℕ, ◌+◌, ◌/◌, ◌≤◌, ◌<◌, length}
+use lib.ListN.{set}
 use Rattle.basics.specs.Lists.{tabulate, padded}
 use Rattle.routes.specs.Route.{path_of, links_of}
 use Rattle.hyperperiod.specs.Hyper.{most}
@@ -43,6 +44,14 @@ entry_of_packet p = record { flow = p.flow; release = p.release }
 -- a list of packets
 unfoldable pub arrays_of : List Packet → Packets
 arrays_of ps = record { count = length ps; all = padded 1024 no_packet (map entry_of_packet ps) }
+
+-- the flows with one more behind them
+abbrev pub with_flow : Flows → FlowEntry → Flows
+with_flow flows flow = record { count = flows.count + 1; all = set flows.all flows.count flow }
+
+-- the packets with one more behind them
+abbrev pub with_one : Packets → PacketEntry → Packets
+with_one packets packet = record { count = packets.count + 1; all = set packets.all packets.count packet }
 
 -- the number of each packet's flow
 unfoldable pub flow_numbers : List PacketEntry → List ℕ

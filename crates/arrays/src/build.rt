@@ -1,10 +1,10 @@
 // The flows and the packets of a model that is not refused, as arrays by value.
-ghost use Rattle.std.specs.Prelude.{◌≡◌, []};
+ghost use Rattle.std.specs.Prelude.{◌≡◌, ◌<◌, []};
 ghost use Rattle.model.specs.Flows.{flows_in};
 ghost use Rattle.model.specs.Packets.{packets_of};
 ghost use Rattle.model.specs.Fair.{Fair};
 ghost use Rattle.model.specs.declared.flows.Mesh.{Mesh};
-ghost use Rattle.arrays.specs.Arrays.{Packable, no_flows, flows_up_to, flow_numbers, arrays_of, model_of};
+ghost use Rattle.arrays.specs.Arrays.{Packable, no_flows, flows_up_to, flow_numbers, arrays_of, with_one, with_flow, model_of};
 
 use load::{FlowEntry, PacketEntry};
 use model::{Mesh, PER_FLOW, flow_of, hyper_in, occupancy_of};
@@ -17,6 +17,37 @@ pub struct Flows {
     pub all: [FlowEntry; 64],
 }
 
+impl Flows {
+    // No flows.
+    fn none() -> Flows
+        ensures { result ≡ no_flows }
+    {
+        let no_path = Path {
+            links: [0; 32],
+            len: 0,
+        };
+        let empty = FlowEntry {
+            period: 0,
+            due: 0,
+            occupancy: 0,
+            path: no_path,
+        };
+        Flows {
+            count: 0,
+            all: [empty; 64],
+        }
+    }
+
+    // One flow more, behind the others.
+    fn push(&mut self, flow: FlowEntry)
+        requires { self.old.count < 64 }
+        ensures { self.new ≡ with_flow self.old flow }
+    {
+        self.all[self.count] = flow;
+        self.count += 1;
+    }
+}
+
 // The packets of one hyper-period: the first count of all; what follows them is 0.
 #[derive(Clone, Copy)]
 pub struct Packets {
@@ -25,6 +56,30 @@ pub struct Packets {
 }
 
 impl Packets {
+    // No packets.
+    fn none() -> Packets
+        ensures { result ≡ arrays_of [] }
+    {
+        let empty = PacketEntry {
+            flow: 0,
+            release: 0,
+        };
+        Packets {
+            count: 0,
+            all: [empty; 1024],
+        }
+    }
+
+    // One packet more, behind the others.
+    fn push(&mut self, packet: PacketEntry)
+        requires { self.old.count < 1024 }
+        ensures { self.new ≡ with_one self.old packet }
+    {
+        let at = self.count;
+        self.all[at] = packet;
+        self.count = at + 1;
+    }
+
     // The number of each packet's flow.
     pub fn flow_numbers(&self) -> [u16; 1024]
         ensures { result ≡ flow_numbers self.now.all }
@@ -41,60 +96,27 @@ pub struct Model {
     pub packets: Packets,
 }
 
-// No flows.
-fn no_flows() -> Flows
-    ensures { result ≡ no_flows }
-{
-    let none = Path {
-        links: [0; 32],
-        len: 0,
-    };
-    let empty = FlowEntry {
-        period: 0,
-        due: 0,
-        occupancy: 0,
-        path: none,
-    };
-    Flows {
-        count: 0,
-        all: [empty; 64],
-    }
-}
-
-// No packets.
-fn no_packets() -> Packets
-    ensures { result ≡ arrays_of [] }
-{
-    let empty = PacketEntry {
-        flow: 0,
-        release: 0,
-    };
-    Packets {
-        count: 0,
-        all: [empty; 1024],
-    }
-}
-
 // The flows of a model that is not refused, written one after the other.
 fn flows_of(mesh: Mesh, numbers: &[u32]) -> Flows
     requires { Fair mesh numbers.now }
     ensures { result ≡ flows_up_to mesh numbers.now (flows_in numbers.now) }
 {
-    let mut flows = no_flows();
+    let mut flows = Flows::none();
     let n = numbers.len() / PER_FLOW;
     for f in 0..n {
         let flow = flow_of(numbers, f);
-        flows.all[f] = FlowEntry {
+        let held = occupancy_of(mesh, numbers, f);
+        let path = route(
+            mesh.columns as usize,
+            flow.source as usize,
+            flow.target as usize,
+        );
+        flows.push(FlowEntry {
             period: flow.period,
             due: flow.due,
-            occupancy: occupancy_of(mesh, numbers, f).0,
-            path: route(
-                mesh.columns as usize,
-                flow.source as usize,
-                flow.target as usize,
-            ),
-        };
-        flows.count = f + 1;
+            occupancy: held.0,
+            path,
+        });
     }
     flows
 }
@@ -104,18 +126,15 @@ fn packets_of(numbers: &[u32], hyper: u32) -> Packets
     requires { Packable numbers.now hyper }
     ensures { (mesh : Mesh) → result ≡ arrays_of (packets_of mesh numbers.now) }
 {
-    let mut packets = no_packets();
+    let mut packets = Packets::none();
     let n = numbers.len() / PER_FLOW;
     for f in 0..n {
         let period = flow_of(numbers, f).period;
-        let turns = hyper / period;
-        for k in 0..turns {
-            let at = packets.count;
-            packets.all[at] = PacketEntry {
+        for k in 0..hyper / period {
+            packets.push(PacketEntry {
                 flow: f as u16,
                 release: k * period,
-            };
-            packets.count = at + 1;
+            });
         }
     }
     packets

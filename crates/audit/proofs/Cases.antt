@@ -1,12 +1,13 @@
--- That over a model that is not refused the check's verdict is the verdict of document 01.
+-- That over a model that is not refused the check's verdict is the verdict of document 01; and the check, case by case.
 use mathlib.Core.Path.{◌≡◌, refl, sym, ◌∙◌, ap, ap₂}
 use mathlib.Core.Bool.{not}
 use mathlib.Core.List.{List}
-use Prim.Native.Nat.{ℕ, ◌<◌}
+use Prim.Native.Nat.{ℕ, ◌≤◌, ◌<◌}
 use native.Mathlib.Omega.{arith}
 use lib.Dec.{ltb}
 use lib.ListN.{length}
-use Rattle.std.specs.Prelude.{Option, Some, None}
+use borrow.Author.Tests.{lt-ltb, le-ltb}
+use Rattle.std.specs.Prelude.{Option, Some, None, Ok, Err}
 use Rattle.std.specs.Option.{option_map}
 use Rattle.basics.specs.Choose.{both}
 use Rattle.basics.specs.First.{first, some, found}
@@ -14,17 +15,20 @@ use Rattle.basics.proofs.First.{first_same, some_same, found_same, found_first, 
 use Rattle.packet.specs.Packet.{Packet, may_start, collide}
 use Rattle.packet.specs.Table.{time_at, outside, meets, meets_higher}
 use Rattle.model.specs.Packets.{hyper_in, packets_in, packets_of}
-use Rattle.model.specs.Answers.{answer_by}
+use Rattle.model.specs.Answers.{answer_by, refused_by}
 use Rattle.model.specs.Fair.{Fair}
 use Rattle.arrays.specs.Arrays.{model_of}
 use Rattle.model.specs.declared.flows.Mesh.{Mesh}
+use Rattle.model.specs.declared.answers.Refusal.{Refusal}
+use Rattle.model.specs.declared.answers.Refusal.TheVariants.{ShortTable, Outside, Collision}
+use Rattle.refusals.specs.Refusals.{accepted, refuse_if, refusal_of}
 use Rattle.arrays.specs.declared.build.Flows.{Flows}
 use Rattle.arrays.specs.declared.build.Packets.{Packets}
 use Rattle.model.proofs.Numbering.{packets_length}
 use Rattle.arrays.proofs.Reading.{model_count, packet_in_lem}
 use Rattle.refusals.proofs.Accepted.{fair_accepted}
 use Rattle.pairs.proofs.Pairs.{pair_is}
-use Rattle.audit.specs.Check.{too_short, check_refusal, first_meeting, verdict_of, check_of}
+use Rattle.audit.specs.Check.{too_short, check_refusal, passed_with, verdict_by, first_meeting, verdict_of, check_of}
 use Rattle.ranges.specs.Ranges.{strays, Scan}
 use Rattle.pairs.specs.Scan.{meets_in, higher_in, first_pair, Timely}
 use Rattle.pairs.specs.declared.scan.Pair.{Pair}
@@ -110,3 +114,44 @@ module _ (mesh : Mesh) (numbers : List ℕ) (fair : Fair mesh numbers) (table : 
   pub verdict_is : answer_by (verdict_in (model_of mesh numbers) table) ≡ check_of mesh numbers table
   unfolding verdict_in check_of check_refusal too_short verdict_of
   verdict_is = rw (same_hyper, same_first, same_pair, counted, fair_accepted mesh numbers fair, packets_length mesh numbers)
+
+  -- ---- the check of a model that is not refused
+
+  -- a table that is too short: 10
+  pub check_short : length table < packets_in numbers → check_of mesh numbers table ≡ refused_by ShortTable
+  unfolding check_of check_refusal too_short refuse_if
+  check_short h = rw (fair_accepted mesh numbers fair, lt-ltb (length table) (packets_in numbers) h)
+
+  -- a table that is long enough: its verdict
+  pub check_long : packets_in numbers ≤ length table → check_of mesh numbers table ≡ answer_by (verdict_of (hyper_in numbers) (packets_of mesh numbers) table)
+  unfolding check_of check_refusal too_short refuse_if
+  check_long h = rw (fair_accepted mesh numbers fair, le-ltb (length table) (packets_in numbers) h)
+
+-- a model that is refused: its refusal
+pub check_early : (mesh : Mesh) (numbers table : List ℕ) (refusal : Refusal) → refusal_of mesh accepted numbers ≡ Err refusal
+    → check_of mesh numbers table ≡ refused_by refusal
+unfolding check_of check_refusal
+check_early mesh numbers table refusal e = rw e
+
+-- ---- the verdict of a list of packets
+
+module _ (hyper : ℕ) (ps : List Packet) (table : List ℕ) where
+  -- 11: the lowest packet out of range
+  pub verdict_11 : first (outside ps table) (length ps) < length ps → verdict_of hyper ps table ≡ Err (Outside (first (outside ps table) (length ps)))
+  unfolding verdict_of verdict_by found some
+  verdict_11 h = rw (lt-ltb (first (outside ps table) (length ps)) (length ps) h)
+
+  -- 12: the lowest pair
+  pub verdict_12 : length ps ≤ first (outside ps table) (length ps) → first (meets_higher ps table) (length ps) < length ps
+      → verdict_of hyper ps table
+      ≡ Err (Collision (first (meets_higher ps table) (length ps)) (first (meets ps table (first (meets_higher ps table) (length ps))) (length ps)))
+  unfolding verdict_of verdict_by first_meeting found some
+  verdict_12 h k =
+      rw (le-ltb (first (outside ps table) (length ps)) (length ps) h, lt-ltb (first (meets_higher ps table) (length ps)) (length ps) k)
+
+  -- 0: passed
+  pub verdict_0 : length ps ≤ first (outside ps table) (length ps) → length ps ≤ first (meets_higher ps table) (length ps)
+      → verdict_of hyper ps table ≡ Ok (passed_with hyper (length ps))
+  unfolding verdict_of verdict_by first_meeting found some
+  verdict_0 h k =
+      rw (le-ltb (first (outside ps table) (length ps)) (length ps) h, le-ltb (first (meets_higher ps table) (length ps)) (length ps) k)

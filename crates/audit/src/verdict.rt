@@ -6,7 +6,7 @@ ghost use Rattle.audit.specs.Check.{check_of};
 ghost use Rattle.audit.specs.Verdict.{verdict_in};
 
 use arrays::{Model, model_of};
-use model::{Answer, Mesh, Refusal, refused};
+use model::{Answer, Mesh, Refusal};
 use pairs::first_meeting;
 use ranges::first_outside;
 use refusals::refusal;
@@ -50,5 +50,5 @@ fn checked(mesh: Mesh, numbers: &[u32], table: &[u32]) -> Result<Answer, Refusal
 pub fn check(mesh: Mesh, numbers: &[u32], table: &[u32]) -> Answer
     ensures { result ≡ check_of mesh numbers.now table.now }
 {
-    checked(mesh, numbers, table).unwrap_or_else(|refusal| refused(refusal))
+    checked(mesh, numbers, table).unwrap_or_else(Answer::from)
 }

@@ -40,11 +40,6 @@ pub neither : (a b : Bool) → either a b ≡ false → (a ≡ false) × (b ≡ 
 neither true b e = absurd (true≢false e)
 neither false b e = (refl, e)
 
--- where the first test passes, one does
-pub first_of : (a b : Bool) → a ≡ true → either a b ≡ true
-first_of true b e = refl
-first_of false b e = absurd (true≢false (sym e))
-
 -- where the first test does not pass, the second decides
 pub rest_of : (a b : Bool) → a ≡ false → either a b ≡ b
 rest_of true b e = absurd (true≢false e)

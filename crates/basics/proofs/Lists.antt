@@ -97,7 +97,7 @@ padded_next {X = X} n fill f k h e d =
     ∙ ap (λ (i : ℕ). padded n fill (tabulate f 0 i)) (sym (add-one k))
 
 -- a list that holds the first entries of a rule is the rule's list
-pub tabulate_is {ℓ} : {X : Type ℓ} (f : ℕ → X) (n : ℕ) (d : X) (xs : List X) → length xs ≡ n → ((k : ℕ) → k < n → get_or xs k d ≡ f k) → xs ≡ tabulate f 0 n
+tabulate_is {ℓ} : {X : Type ℓ} (f : ℕ → X) (n : ℕ) (d : X) (xs : List X) → length xs ≡ n → ((k : ℕ) → k < n → get_or xs k d ≡ f k) → xs ≡ tabulate f 0 n
 tabulate_is f n d xs e at =
     ext_get_or d xs (tabulate f 0 n) (e ∙ sym (tabulate_length f 0 n))
     (λ i h. let l : i < n = omega (arith, e) in at i l ∙ sym (tabulate_at f 0 n i d l ∙ ap f (zero-add i)))

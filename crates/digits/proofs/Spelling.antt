@@ -12,7 +12,7 @@ use Rattle.std.specs.List.{list_all}
 use Rattle.std.specs.Char.{is_ascii_digit}
 use lib.Dec.{leb, eqb}
 use lib.ListN.{length, get_or, drop}
-use Rattle.std.proofs.lemmas.List.{at_drop_more}
+use Rattle.std.proofs.lemmas.List.{at_drop_more, at_drop_all}
 use Rattle.basics.specs.Choose.{both, either, choose}
 use Rattle.basics.proofs.Choose.{both_first, both_second, both_not}
 use Rattle.digits.proofs.Chosen.{chosen_none, chosen_some}
@@ -80,6 +80,11 @@ pub value_next : (field : List ℕ) (i value : ℕ) → i < length field
     → value_from value (drop i field) ≡ value_from (value * 10 + (get_or field i 0 - 48)) (drop (i + 1) field)
 unfolding value_from
 value_next field i value h = at_drop_more (value_from value) field i 0 h
+
+-- past the last byte the value is whole
+pub value_end : (field : List ℕ) (i value : ℕ) → length field ≤ i → value_from value (drop i field) ≡ value
+unfolding value_from
+value_end field i value h = at_drop_all (value_from value) field i h
 
 -- where the bytes from a place on are digits, this one is, and those behind it are
 pub digits_next : (field : List ℕ) (i : ℕ) → i < length field → all_digits (drop i field) ≡ true

@@ -17,6 +17,7 @@ fn formed(field: &[u8], most: usize) -> bool
 }
 
 // The number of a field of 1 to so many digits, at most `most`; a value that leaves 64 bits is above every `most`.
+#[tactic(auto, using(crate::proofs::Spelling::not_formed, crate::proofs::Spelling::number_above, crate::proofs::Spelling::value_grows, crate::proofs::Spelling::value_next, crate::proofs::Spelling::digits_next, crate::proofs::Spelling::formed_digits, crate::proofs::Spelling::value_end, crate::proofs::Spelling::number_formed), unfolding(crate::specs::Numbers::value_of))]
 pub fn read_number(field: &[u8], digits: usize, most: u64) -> Option<u64>
     ensures { result ≡ number_of digits most field.now }
 {

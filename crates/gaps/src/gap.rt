@@ -10,6 +10,7 @@ use marks::has_mark;
 use mesh::ALL_LINKS;
 
 // Where a packet goes: the time taken, or nowhere; and how many times were tried.
+// Kept: both cases carry the tries, so neither is the None of an Option; the definitions read one case at a time.
 #[derive(Clone, Copy)]
 pub enum Placed {
     At { time: u32, tries: u32 },

@@ -16,7 +16,7 @@ use Rattle.packet.specs.Table.{placed}
 use Rattle.packet.proofs.Placed.{placed_new, placed_other}
 use Rattle.order.specs.Lists.{shifted}
 use Rattle.order.proofs.Shifting.{shifted_before, shifted_at, shifted_moved, shifted_length}
-use Rattle.order.proofs.Halving.{after_within, after_below, after_above}
+use Rattle.order.proofs.After.{after_within, after_below, after_above}
 use Rattle.kept.specs.Kept.{start_of, spot_of, added, Kept, Roster}
 use Rattle.kept.specs.declared.finding.Taken.{Taken}
 

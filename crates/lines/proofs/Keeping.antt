@@ -2,23 +2,17 @@
 use mathlib.Core.Path.{◌≡◌, refl, sym, ◌∙◌, ap}
 use mathlib.Core.Bool.{Bool, true, false}
 use mathlib.Core.List.{List, ◌++◌}
-use Prim.Native.Nat.{ℕ, zero, suc, ◌+◌, ◌-◌, ◌*◌, ◌≤◌}
-use native.Mathlib.Nat.{sub-zero, suc-sub-suc}
+use Prim.Native.Nat.{ℕ, ◌+◌, ◌-◌, ◌*◌, ◌≤◌}
 use native.Mathlib.Omega.{arith}
 use borrow.Author.Tests.{ltb-true, ltb-false}
 use lib.Dec.{ltb}
 use lib.ListN.{length, take, drop, replicate, length-append}
 use lib.Seq.{paste, take_at, take_all, take-length, take-append-le, drop-append-add}
+use Rattle.std.proofs.lemmas.List.{drop-replicate}
 use Rattle.basics.specs.Lists.{padded}
 use Rattle.model.specs.Flows.{per_flow}
 use Rattle.lines.specs.Form.{most_kept, kept_numbers, flows_kept}
 use Rattle.lines.specs.Steps.{stored_at}
-
--- fewer of one value
-drop_replicate : (j m : ℕ) → drop {A = ℕ} j (replicate m 0) ≡ replicate (m - j) 0
-drop_replicate zero m = ap (λ (k : ℕ). replicate {A = ℕ} k 0) (sym (sub-zero m))
-drop_replicate (suc j) zero = ap (λ (k : ℕ). replicate {A = ℕ} k 0) (let z : 0 ≡ 0 - suc j = omega arith in z)
-drop_replicate (suc j) (suc m) = drop_replicate j m ∙ ap (λ (k : ℕ). replicate {A = ℕ} k 0) (sym (suc-sub-suc m j))
 
 -- what is copied behind the list is put on it
 paste_padded : (n k : ℕ) (xs ys : List ℕ) → length xs ≡ k → k + length ys ≤ n → paste (padded n 0 xs) k ys (length ys) ≡ padded n 0 (xs ++ ys)
@@ -30,7 +24,7 @@ paste_padded n k xs ys e h =
     ∙ ap (λ (l : List ℕ). xs ++ l ++ drop (k + length ys) (xs ++ zeros)) (take-length ys)
     ∙ ap (λ (j : ℕ). xs ++ ys ++ drop (j + length ys) (xs ++ zeros)) (sym e)
     ∙ ap (λ (l : List ℕ). xs ++ ys ++ l)
-    (drop-append-add xs zeros (length ys) ∙ drop_replicate (length ys) (n - length xs) ∙ ap (λ (j : ℕ). replicate {A = ℕ} j 0) left)
+    (drop-append-add xs zeros (length ys) ∙ drop-replicate (length ys) (n - length xs) 0 ∙ ap (λ (j : ℕ). replicate {A = ℕ} j 0) left)
 
 -- one more flow's numbers are kept, or not where the most flows are kept
 pub kept_more : (done flow : List ℕ) (count : ℕ) → length done ≡ per_flow * count → length flow ≡ per_flow

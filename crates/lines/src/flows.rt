@@ -15,6 +15,7 @@ pub const MOST_KEPT: usize = 65;
 pub const KEPT_NUMBERS: usize = PER_FLOW * MOST_KEPT;
 
 // The flow lines: their numbers, as many as are kept, and their count.
+// Kept: no heap, so the numbers stand in an array; the count is of all flow lines, which may be more than it holds.
 #[derive(Clone, Copy)]
 pub struct Lines {
     pub numbers: [u32; KEPT_NUMBERS],
@@ -48,6 +49,7 @@ pub fn read_flows(text: &[u8], from: usize) -> Result<Lines, BadLine>
         numbers: [0; KEPT_NUMBERS],
         count: 0,
     };
+    // Kept: a place moved on by each line's own length, as read_line promises it; no element is counted.
     while at < text.len() {
         let bad = BadLine {
             line: (lines.count + 3) as u32,

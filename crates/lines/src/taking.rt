@@ -14,6 +14,7 @@ pub struct Line {
 }
 
 // The line at a place, as the record of a word and n numbers; its line feed must end it.
+#[tactic(auto, using(records::proofs::Places::place_some, crate::proofs::TextLines::line_unended, crate::proofs::TextLines::line_wrong, crate::proofs::TextLines::line_right))]
 pub fn read_line(text: &[u8], at: usize, word: &[u8], n: usize) -> Option<Line>
     requires { (n ≤ most_numbers) × (at ≤ length text.now) }
     ensures { result ≡ line_at word.now n text.now at }

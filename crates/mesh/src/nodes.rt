@@ -10,6 +10,7 @@ pub struct Place {
 }
 
 // The place of a node.
+// Kept: columns is a number, a field of the model's mesh: as a type with its bounds it would be built anew at each of the two outer calls.
 #[tactic(auto, unfolding(crate::specs::Node::place_of))]
 pub fn place_of(columns: usize, node: usize) -> Place
     requires { 0 < columns }

@@ -12,6 +12,8 @@ use Rattle.model.proofs.answers.Refusal.other.Reads as other_reads
 use Rattle.model.proofs.answers.Refusal.other.Kinds as other_kinds
 use Rattle.model.proofs.answers.refused.Reads as refused
 use Rattle.model.proofs.answers.refused.Kinds as refused_kinds
+use Rattle.model.proofs.flows.number_of.Reads as number_of_lem
+use Rattle.model.proofs.flows.number_of.Kinds as number_of_kinds
 use Rattle.model.proofs.flows.flow_of.Reads as flow_of_reads
 use Rattle.model.proofs.flows.flow_of.Kinds as flow_of_kinds
 use Rattle.model.proofs.flows.occupancy_of.Reads as occupancy_of_reads
@@ -36,6 +38,10 @@ refusal_other_determined κs a x y s t p q = p ∙ sym q
 -- the answer of a refusal
 pub refused_determined : Determined 0 refused_kinds.ps refused_kinds.r refused.Post
 refused_determined κs a x y s t p q = p ∙ sym q
+
+-- a number of a flow
+pub number_of_determined : Determined 1 number_of_kinds.ps number_of_kinds.r number_of_lem.Post
+number_of_determined κs a x y s t p q = p ∙ sym q
 
 -- a flow of the list
 pub flow_of_determined : Determined 1 flow_of_kinds.ps flow_of_kinds.r flow_of_reads.Post

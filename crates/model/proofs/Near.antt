@@ -20,10 +20,6 @@ distance_small columns a b e =
     apart_lt (a / columns) (b / columns) 16 ((div-lt_iff_lt-mul e.some_columns).1 e.source_in) ((div-lt_iff_lt-mul e.some_columns).1 e.target_in) in
     omega (arith, e.few_columns)
 
--- a mesh past 2 has at most 16 × 16 nodes
-pub nodes_few : (mesh : Mesh) → FairMesh mesh → mesh.columns * mesh.rows ≤ 16 * 16
-nodes_few mesh m = mul-le-mul m.columns_high m.rows_high
-
 -- the ends of a flow past 2 and 5 are two nodes of such a mesh
 pub ends_of : (mesh : Mesh) (numbers : List ℕ) (f : ℕ) → FairMesh mesh → FairNodes mesh numbers f → Ends mesh.columns (source_of numbers f) (target_of numbers f)
 ends_of mesh numbers f m n =

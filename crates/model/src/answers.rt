@@ -92,15 +92,25 @@ impl Refusal {
     }
 }
 
-// The answer of a refusal.
-#[tactic(auto, unfolding(crate::specs::Answers::refused_by))]
+// The answer of a refusal: its number, place and other.
+impl From<Refusal> for Answer {
+    ghost from_gives = { λ refusal answer. answer ≡ refused_by refusal };
+
+    #[tactic(auto, unfolding(crate::specs::Answers::refused_by))]
+    fn from(refusal: Refusal) -> Answer {
+        Answer {
+            number: refusal.number(),
+            place: refusal.place(),
+            other: refusal.other(),
+            ..Answer::default()
+        }
+    }
+}
+
+// The answer of a refusal, by its conversion.
+// Kept: docs/PROMISES.md names it, and the theorem `refused_determined` speaks of it.
 pub fn refused(refusal: Refusal) -> Answer
     ensures { result ≡ refused_by refusal }
 {
-    Answer {
-        number: refusal.number(),
-        place: refusal.place(),
-        other: refusal.other(),
-        ..Answer::default()
-    }
+    refusal.into()
 }

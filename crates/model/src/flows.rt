@@ -1,6 +1,6 @@
 // Mesh numbers, and flows as one list of numbers, so many to a flow.
-ghost use Rattle.std.specs.Prelude.{◌≡◌, ◌+◌, ◌*◌, ◌≤◌, length};
-ghost use Rattle.model.specs.Flows.{per_flow, flow_of, occupancy_in};
+ghost use Rattle.std.specs.Prelude.{◌≡◌, ◌+◌, ◌*◌, ◌<◌, ◌≤◌, length};
+ghost use Rattle.model.specs.Flows.{per_flow, number_of, flow_of, occupancy_in};
 ghost use Rattle.model.specs.Fair.{Sized};
 
 use time::{Bytes, Cycles, flits_of, occupancy};
@@ -27,18 +27,28 @@ pub struct Flow {
     pub due: u32,
 }
 
-// Flow f of the list: its five numbers, in this order.
+// Number i of flow f: source, target, period, size, deadline.
+#[tactic(auto, unfolding(crate::specs::Flows::number_of))]
+pub fn number_of(numbers: &[u32], f: usize, i: usize) -> u32
+    requires { per_flow * f + i < length numbers.now }
+    ensures { result ≡ number_of i numbers.now f }
+{
+    numbers[PER_FLOW * f + i]
+}
+
+// Flow f of the list: its five numbers, by their names.
+// Kept: what `number_of` promises of any number of a list may not change, so the places 0 to 4 stand here, and only here.
+#[tactic(auto, unfolding(crate::specs::Flows::flow_of, crate::specs::Flows::source_of, crate::specs::Flows::target_of, crate::specs::Flows::period_of, crate::specs::Flows::size_of, crate::specs::Flows::due_of))]
 pub fn flow_of(numbers: &[u32], f: usize) -> Flow
     requires { per_flow * f + per_flow ≤ length numbers.now }
     ensures { result ≡ flow_of numbers.now f }
 {
-    let at = PER_FLOW * f;
     Flow {
-        source: numbers[at],
-        target: numbers[at + 1],
-        period: numbers[at + 2],
-        size: numbers[at + 3],
-        due: numbers[at + 4],
+        source: number_of(numbers, f, 0),
+        target: number_of(numbers, f, 1),
+        period: number_of(numbers, f, 2),
+        size: number_of(numbers, f, 3),
+        due: number_of(numbers, f, 4),
     }
 }
 

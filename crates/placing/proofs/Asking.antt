@@ -10,7 +10,7 @@ use Rattle.load.specs.declared.traffic.Traffic.{Traffic}
 use Rattle.kept.specs.Kept.{start_of, spot_of}
 use Rattle.kept.specs.declared.finding.Taken.{Taken}
 use Rattle.std.specs.Prelude.{Option}
-use Rattle.order.proofs.Halving.{after_within, after_below}
+use Rattle.order.proofs.After.{after_within, after_below}
 use Rattle.marks.specs.Marks.{stamped, Marked}
 use Rattle.marks.proofs.Marking.{marked_stamped}
 use Rattle.gaps.specs.Gaps.{flow_of, Sweep, Resumes}

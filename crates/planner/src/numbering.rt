@@ -9,6 +9,7 @@ use model::{Answer, Mesh};
 use refusals::refusal;
 
 // The answer, and for 0 and 13 the flow and k of each packet; what follows them is 0.
+// Kept: two arrays, since put_piece of the printer, which a program calls itself, takes each as a slice of its own.
 #[derive(Clone, Copy)]
 pub struct Plan {
     pub answer: Answer,
@@ -22,6 +23,7 @@ fn turns(flows: Flows, packets: Packets) -> [u16; 1024]
     ensures { result ≡ padded 1024 0 (tabulate (λ p. (packet_in flows packets p).turn) 0 packets.count) }
 {
     let mut all = [0u16; 1024];
+    // Kept: written by place, since the library says nothing of what an adapter of iter_mut writes.
     for (p, packet) in packets.all[..packets.count].iter().enumerate() {
         let period = packet.flow_among(&flows.all).period;
         all[p] = (packet.release / period) as u16;
@@ -42,6 +44,7 @@ pub fn bare(answer: Answer) -> Plan
 }
 
 // The plan of an answer with the packets of its model.
+#[tactic(auto, using(refusals::proofs::Accepted::accepted_fair, crate::proofs::Turning::model_turned, crate::proofs::Turning::plan_refused, crate::proofs::Turning::is_accepted, crate::proofs::Turning::plan_built))]
 pub fn with_packets(answer: Answer, mesh: Mesh, numbers: &[u32]) -> Plan
     ensures { result ≡ plan_for answer (packets_for mesh numbers.now) }
 {

@@ -18,6 +18,7 @@ fn judged(flows: usize) -> usize
 }
 
 // The plan of a text: any bytes and any lent table are answered; a refusal leaves the table untouched.
+#[tactic(auto, using(crate::proofs::Planning::plan_malformed, crate::proofs::Planning::table_malformed))]
 pub fn plan_of(text: &[u8], table: &mut [u32]) -> Plan
     ensures { (result ≡ plan_of text.now table.old) × (table.new ≡ plan_table text.now table.old) }
 {

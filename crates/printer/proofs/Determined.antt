@@ -1,24 +1,32 @@
 -- Every public function's answer, and the buffer lent to it, follow from its arguments: any two that its contract allows are equal,
 -- wherever the same numbers are kept.
-use mathlib.Core.Path.{◌≡◌, sym, ◌∙◌, ap}
+use mathlib.Core.Path.{◌≡◌, refl, sym, ◌∙◌, ap}
 use mathlib.Core.List.{List}
 use Prim.Native.Nat.{ℕ}
 use contract.Lifetimes.{Lfts}
 use denote.Triple.Clauses.{AtExit}
 use borrow.Fn.Kinds.{Dens, res_t, ended_of}
 use lib.ListN.{length}
+use Rattle.std.specs.declared.option.Option.{Option}
+use Rattle.std.specs.Prelude.{None, Some}
+use Rattle.std.specs.Option.{option_map}
+use Rattle.std.specs.Iterator.{YieldsFirstBy}
 use Rattle.model.specs.declared.answers.Answer.{Answer}
 use Rattle.words.specs.Writer.{in_front}
 use Rattle.printer.specs.Printer.{piece_in, next_in, piece_of, is_done as done_at, Printed}
 use Rattle.printer.specs.ByLine.{line_text, lines_of, lines_left}
 use Rattle.printer.specs.declared.printing.Cursor.{Cursor}
+use Rattle.printer.specs.declared.line.Line.{Line}
 use Rattle.printer.specs.declared.printing.Piece.{Piece}
+use Rattle.printer.specs.declared.text.Lines.{Lines}
 use Rattle.printer.proofs.printing.Cursor.is_done.Reads as is_done
 use Rattle.printer.proofs.printing.Cursor.is_done.Kinds as is_done_kinds
 use Rattle.printer.proofs.line.Line.as_bytes.Reads as as_bytes
 use Rattle.printer.proofs.line.Line.as_bytes.Kinds as as_bytes_kinds
 use Rattle.printer.proofs.text.Lines.new.Reads as new
 use Rattle.printer.proofs.text.Lines.new.Kinds as new_kinds
+use Rattle.printer.proofs.text.LinesIterator.next.Reads as next
+use Rattle.printer.proofs.text.LinesIterator.next.Kinds as next_kinds
 use Rattle.printer.proofs.printing.put_piece.Reads as put_piece
 use Rattle.printer.proofs.printing.put_piece.Kinds as put_piece_kinds
 
@@ -85,3 +93,22 @@ pub as_bytes_determined : (κs λs : Lfts 1) (a : Dens κs as_bytes_kinds.ps) (b
     → as_bytes.Post κs a x s → as_bytes.Post λs b y t
     → x.now ≡ y.now
 as_bytes_determined κs λs a b x y s t c p q = p ∙ c ∙ sym q
+
+-- a call at the same lines to come gives the same line, and leaves the same lines
+yielded_once : (before₁ before₂ after₁ after₂ : Lines) (x y : Option Line) → lines_left before₁ ≡ lines_left before₂
+    → YieldsFirstBy line_text lines_left before₁ x after₁ → YieldsFirstBy line_text lines_left before₂ y after₂
+    → (option_map line_text x ≡ option_map line_text y) × (lines_left after₁ ≡ lines_left after₂)
+yielded_once before₁ before₂ after₁ after₂ None None c p q = (refl, p.1 ∙ sym q.1)
+yielded_once before₁ before₂ after₁ after₂ None (Some y) c p q = absurd (cc)
+yielded_once before₁ before₂ after₁ after₂ (Some x) None c p q = absurd (cc)
+yielded_once before₁ before₂ after₁ after₂ (Some x) (Some y) c p q = (cc, cc)
+
+-- the next line, and the lines that are left behind it, of iterators with the same lines to come
+pub next_determined : (κs λs : Lfts 2) (a : Dens κs next_kinds.ps) (b : Dens λs next_kinds.ps)
+    (x : (res_t next_kinds.r κs).Denot) (y : (res_t next_kinds.r λs).Denot)
+    (s : AtExit (ended_of 2 next_kinds.ps next_kinds.r) κs)
+    (t : AtExit (ended_of 2 next_kinds.ps next_kinds.r) λs)
+    → lines_left a.0.now ≡ lines_left b.0.now
+    → next.Post κs a x s → next.Post λs b y t
+    → (option_map line_text x ≡ option_map line_text y) × (lines_left s.0.now ≡ lines_left t.0.now)
+next_determined κs λs a b x y s t c p q = yielded_once a.0.now b.0.now s.0.now t.0.now x y c p.0 q.0

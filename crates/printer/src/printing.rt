@@ -91,8 +91,8 @@ fn put_first(output: Output<'_>, out: &mut [u8]) -> Piece
     let answer = output.answer;
     if prints_table(answer.number) {
         let fields = [
-            Field::Number(answer.hyper as u64),
-            Field::Number(answer.packets as u64),
+            Field::Number(u64::from(answer.hyper)),
+            Field::Number(u64::from(answer.packets)),
         ];
         let len = put_line(out, &TABLE, &fields);
         return Piece {
@@ -101,8 +101,8 @@ fn put_first(output: Output<'_>, out: &mut [u8]) -> Piece
         };
     }
     let fields = [
-        Field::Number(answer.number as u64),
-        Field::Number(answer.place as u64),
+        Field::Number(u64::from(answer.number)),
+        Field::Number(u64::from(answer.place)),
     ];
     let len = put_line(out, &REFUSE, &fields);
     Piece {
@@ -123,9 +123,9 @@ fn put_packet(p: u32, output: Output<'_>, out: &mut [u8]) -> Piece
         let turn = output.turns.get(at).copied().unwrap_or(0);
         let time = output.table.get(at).copied().unwrap_or(0);
         let fields = [
-            Field::Number(p as u64),
-            Field::Number(flow as u64),
-            Field::Number(turn as u64),
+            Field::Number(u64::from(p)),
+            Field::Number(u64::from(flow)),
+            Field::Number(u64::from(turn)),
             Field::Time(time),
         ];
         let len = put_line(out, &INJECT, &fields);
@@ -135,9 +135,9 @@ fn put_packet(p: u32, output: Output<'_>, out: &mut [u8]) -> Piece
         };
     }
     let fields = [
-        Field::Number(answer.passes as u64),
+        Field::Number(u64::from(answer.passes)),
         Field::Number(answer.tries),
-        Field::Number(answer.skipped as u64),
+        Field::Number(u64::from(answer.skipped)),
     ];
     let len = put_line(out, &END, &fields);
     Piece {

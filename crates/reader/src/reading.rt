@@ -45,6 +45,7 @@ impl From<Malformed> for Refusal {
 }
 
 // What a well-formed text says; the numbers of the first 65 flows are kept, beside how many flow lines there are.
+// Kept: no heap, so the numbers stand in an array; the count is of all flow lines, which may be more than it holds.
 #[derive(Clone, Copy)]
 pub struct Input {
     pub mesh: Mesh,
@@ -55,6 +56,7 @@ pub struct Input {
 }
 
 // What a text says, or why it is malformed.
+#[tactic(auto, using(crate::proofs::WholeText::too_long_lem, crate::proofs::WholeText::first_bad, crate::proofs::WholeText::second_bad, crate::proofs::WholeText::third_bad, crate::proofs::WholeText::all_good, crate::proofs::WholeText::next_within), unfolding(crate::proofs::WholeText::says))]
 pub fn read(text: &[u8]) -> Result<Input, Malformed>
     ensures { result ≡ input_of text.now }
 {

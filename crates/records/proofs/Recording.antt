@@ -58,14 +58,14 @@ abbrev pub at_tab : ℕ → Bool
 at_tab b = eqb b tab
 
 -- a closure that tests for a tab computes that test
-pub computes : {F : Type 0} (g : Mut F (Bor ℕ × Unit {0}) Bool) (f : F) → ((x : ℕ) (r : Bool) (q : F) → CalledAt g f x r q → (q ≡ f) × (r ≡ at_tab x))
+computes : {F : Type 0} (g : Mut F (Bor ℕ × Unit {0}) Bool) (f : F) → ((x : ℕ) (r : Bool) (q : F) → CalledAt g f x r q → (q ≡ f) × (r ≡ at_tab x))
     → ComputesKey g at_tab f
 computes g f tests =
     always_returns_same g (λ a r. r ≡ at_tab a.0.now) f
     (λ a r q k. let m = tests a.0.now r q (record { shown = a.0; shows = refl; called = k }) in (m.1, m.0))
 
 -- a field taken is the first of those left, and the others are left
-pub left_next : (before : Bool) (rest field on : List ℕ) (done : Bool) → before ≡ false
+left_next : (before : Bool) (rest field on : List ℕ) (done : Bool) → before ≡ false
     → MatchBool done (rest ≡ field) ((y : ℕ) × (rest ≡ field ++ (y ∷ on))) → IsFirstMatchOrLen at_tab rest (length field)
     → left before rest ≡ field ∷ left done on
 unfolding left
@@ -79,6 +79,13 @@ left_next before rest field on false b e h =
     rw b
     (split_is tab rest ∙ ap (slice_split at_tab) e.1 ∙ slice_split_at at_tab field e.0 on front hit
     ∙ ap (λ (l : List (List ℕ)). field ∷ l) (sym (split_is tab on)))
+
+-- the same of what `next` of a `split` at tabs says of a field taken
+pub left_taken : {F : Type 0} (g : Mut F (Bor ℕ × Unit {0}) Bool) (f q : F) (before : Bool) (rest field on : List ℕ) (done : Bool)
+    → (before ≡ false) × MatchBool done (rest ≡ field) ((y : ℕ) × (rest ≡ field ++ (y ∷ on)))
+    × ((p : ℕ → Bool) → ComputesKey g p f → ComputesKey g p q × IsFirstMatchOrLen p rest (length field))
+    → ((x : ℕ) (r : Bool) (h : F) → CalledAt g f x r h → (h ≡ f) × (r ≡ at_tab x)) → left before rest ≡ field ∷ left done on
+left_taken g f q before rest field on done steps tests = left_next before rest field on done steps.0 steps.1 (steps.2 at_tab (computes g f tests)).1
 
 -- none is left where the last is taken, else one is
 pub left_none : (done : Bool) (rest : List ℕ) → done ≡ true → left done rest ≡ []

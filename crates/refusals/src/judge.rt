@@ -32,6 +32,7 @@ fn refuse_flows(mesh: Mesh, numbers: &[u32]) -> Result<(), Refusal>
     ensures { result ≡ flows_refusal mesh numbers.now }
 {
     let n = numbers.len() / PER_FLOW;
+    // Kept: f is the flow's number, which a refusal names; no list is walked by it.
     for f in 0..n {
         refuse_flow(mesh, numbers, f)?;
     }

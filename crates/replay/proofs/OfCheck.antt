@@ -8,7 +8,6 @@ use mathlib.Core.List.{List}
 use Prim.Native.Nat.{ℕ, ◌≤◌, ◌<◌}
 use native.Mathlib.Omega.{arith}
 use lib.ListN.{length}
-use borrow.Author.Tests.{le-ltb}
 use Rattle.std.specs.Prelude.{Option, Some, None}
 use Rattle.basics.specs.First.{first, found}
 use Rattle.basics.proofs.Choose.{both_pass}
@@ -16,15 +15,16 @@ use Rattle.basics.proofs.First.{first_passes, some_first, some_none, found_first
 use Rattle.packet.specs.Packet.{Packet}
 use Rattle.packet.specs.Table.{outside, meets, meets_higher, passes}
 use Rattle.model.specs.Flows.{period_of, flows_in}
-use Rattle.model.specs.Packets.{hyper_in, turns_in, packets_in, packets_of}
-use Rattle.refusals.specs.Refusals.{accepted, refuse_if}
+use Rattle.model.specs.Packets.{hyper_in, turns_in, packets_of}
+use Rattle.refusals.specs.Refusals.{accepted}
 use Rattle.model.specs.Answers.{refusal_number, refusal_place, refusal_other, refused_by, answer_by}
 use Rattle.model.specs.Fair.{Fair}
 use Rattle.model.specs.declared.flows.Mesh.{Mesh}
 use Rattle.model.specs.declared.answers.Answer.{Answer}
 use Rattle.model.specs.declared.answers.Refusal.TheVariants.{Outside, Collision}
 use Rattle.refusals.proofs.Accepted.{accepted_fair}
-use Rattle.audit.specs.Check.{too_short, check_refusal, passed_with, verdict_by, first_meeting, verdict_of, check_of}
+use Rattle.audit.proofs.Cases.{check_long}
+use Rattle.audit.specs.Check.{passed_with, verdict_by, first_meeting, verdict_of, check_of}
 use Rattle.replay.specs.Replay.{Stray, Clash}
 use Rattle.replay.specs.Demand.{Offered, Replays, Received}
 use Rattle.replay.proofs.Fault.{fault_11, fault_12}
@@ -111,8 +111,7 @@ module _ (mesh : Mesh) (numbers table : List ℕ) (offered : Offered mesh number
 
   -- its check is the verdict of its packets
   judged : check_of mesh numbers table ≡ answer_by (verdict_of (hyper_in numbers) (packets_of mesh numbers) table)
-  unfolding check_of check_refusal too_short refuse_if
-  judged = rw (offered.not_refused, le-ltb (length table) (packets_in numbers) offered.long_enough)
+  judged = check_long mesh numbers fair table offered.long_enough
 
   -- number 0 of the check is that the table passes
   pub check_passes : ((check_of mesh numbers table).number ≡ 0) ↔ (passes (packets_of mesh numbers) table ≡ true)

@@ -19,7 +19,7 @@ use Rattle.basics.specs.Choose.{as_number}
 use Rattle.basics.specs.First.{found}
 use Rattle.basics.proofs.First.{first_passes, found_from, found_first, found_not, found_same}
 use Rattle.basics.specs.Sums.{sum_of, count_of}
-use Rattle.basics.proofs.Sums.{sum_part, count_same}
+use Rattle.basics.proofs.Sums.{sum_part, count_next, count_none, count_same}
 use Rattle.packet.specs.Table.{none, placed}
 use Rattle.passes.specs.declared.repeat.Outcome.{Outcome}
 use Rattle.reports.specs.Reports.{number_for, place_for, report_of}
@@ -35,14 +35,13 @@ unplaced times p = go (eqb (get_or times p none) none)
 
 -- the places of the first i packets that hold it are those of the packets that are not placed
 counted_to : (times : List ℕ) (i : ℕ) → i ≤ length times → count_by (λ t. eqb t none) (take i times) ≡ count_of (λ p. not (placed times p)) i
-unfolding count_of sum_of
-counted_to times zero h = refl
-counted_to times (suc i) h = go (eqb (get_or times i none) none) refl (counted_to times i (omega arith))
+counted_to times zero h = sym (count_none (λ p. not (placed times p)))
+counted_to times (suc i) h = rw (← add-one i, count_next) (go (eqb (get_or times i none) none) refl (counted_to times i (omega arith)))
   where
     go : (b : Bool) → eqb (get_or times i none) none ≡ b → count_by (λ t. eqb t none) (take i times) ≡ count_of (λ p. not (placed times p)) i
-        → count_by (λ t. eqb t none) (take (suc i) times) ≡ sum_of (λ p. as_number (not (placed times p))) i + as_number (not (placed times i))
-    go true e before = rw (unplaced times i, e, ← add-one i) (count_by_more_yes (λ t. eqb t none) times i none (omega arith) e ∙ ap (λ (n : ℕ). n + 1) before)
-    go false e before = rw (unplaced times i, e, ← add-one i, add-zero) (count_by_more_no (λ t. eqb t none) times i none (omega arith) e ∙ before)
+        → count_by (λ t. eqb t none) (take (i + 1) times) ≡ count_of (λ p. not (placed times p)) i + as_number (not (placed times i))
+    go true e before = rw (unplaced times i, e) (count_by_more_yes (λ t. eqb t none) times i none (omega arith) e ∙ ap (λ (n : ℕ). n + 1) before)
+    go false e before = rw (unplaced times i, e, add-zero) (count_by_more_no (λ t. eqb t none) times i none (omega arith) e ∙ before)
 
 -- so all that hold it are all packets that are not placed
 pub counted : (times : List ℕ) → count_by (λ t. eqb t none) times ≡ count_of (λ p. not (placed times p)) (length times)

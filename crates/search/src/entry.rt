@@ -6,7 +6,7 @@ ghost use Rattle.search.specs.Answering.{settings_refusal, answer_of, table_afte
 use crate::carrying::run;
 use arrays::model_of;
 use limits::out_of_range;
-use model::{Answer, Mesh, Refusal, refused};
+use model::{Answer, Mesh, Refusal};
 use refusals::refusal;
 use reports::report;
 
@@ -54,5 +54,5 @@ pub fn search(
 ) -> Answer
     ensures { (result ≡ answer_of mesh pruning threshold numbers.now table.old) × (table.new ≡ table_after mesh pruning threshold numbers.now table.old) }
 {
-    found(mesh, pruning, threshold, numbers, table).unwrap_or_else(|refusal| refused(refusal))
+    found(mesh, pruning, threshold, numbers, table).unwrap_or_else(Answer::from)
 }

@@ -54,6 +54,7 @@ pub fn settle(taken: &mut Taken, spot: usize, packet: u16, time: u32)
 }
 
 // Nothing is placed: no packet has a time.
+// Kept: a place without a time holds 4,294,967,295, as the lent table does (document 01).
 #[tactic(auto, unfolding(crate::specs::Settling::nothing_taken))]
 pub fn nothing_taken() -> Taken
     ensures { result ≡ nothing_taken }

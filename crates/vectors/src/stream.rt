@@ -96,9 +96,13 @@ impl Stream {
     fn length(&mut self, most: usize) -> usize
         ensures { result ≤ most }
     {
-        let read = self.next_number().and_then(|n| usize::try_from(n).ok());
-        let len = self.or_zero(read.filter(|n| *n <= most));
-        len.min(most)
+        match self.next_number() {
+            Some(n) if n <= most as u64 => n as usize,
+            _ => {
+                self.malformed = true;
+                0
+            }
+        }
     }
 
     // The bytes that must stand next; others make the call malformed.

@@ -1,4 +1,5 @@
 // Words and numbers written into a line's buffer, from a place on. Each writer answers the place behind what it wrote.
+// Kept: a buffer and a place, and no struct of both, since `put_byte` to `put_time` (docs/PROMISES.md) take any slice and any place of it.
 ghost use Rattle.std.specs.Prelude.{[], ◌∷◌, ◌+◌, ◌≤◌, length};
 ghost use Rattle.digits.specs.Numbers.{decimal};
 ghost use Rattle.words.specs.Fields.{field, time_field};
@@ -55,5 +56,5 @@ pub fn put_time(out: &mut [u8], at: usize, time: u32) -> usize
     if absent {
         return put_word(out, next, &NONE);
     }
-    put_number(out, next, time as u64)
+    put_number(out, next, u64::from(time))
 }

@@ -3,7 +3,7 @@ use Rattle.std.proofs.Common.{rules, arith, ◌≡◌, ◌≤◌, length, ℕ, s
 use borrow.Author.Tests.{tests}
 use Rattle.std.proofs.lemmas.List.{length-replicate}
 use Rattle.records.specs.Records.{most_numbers}
-use Rattle.records.proofs.Recording.{at_tab, computes, left_next, left_none, left_some, wrong_word, walk_begins, walk_short, walk_long, walk_ends, walk_bad, walk_on}
+use Rattle.records.proofs.Recording.{left_taken, left_none, left_some, wrong_word, walk_begins, walk_short, walk_long, walk_ends, walk_bad, walk_on}
 use Rattle.digits.proofs.Spelling.{number_most}
 use Rattle.records.proofs.fields.read_record.Goals as goal
 
@@ -11,13 +11,13 @@ pub returns-then-ne : goal.returns-then-ne
 returns-then-ne c =
     let steps = c.in_ok-next.ensures.steps in
     wrong_word _ _ _ _ _ _ _ steps.0 c.split-fields.ensures.rest
-    (left_next _ _ _ _ _ steps.0 steps.1 (steps.2 at_tab (computes _ _ (λ x r q k. search (rules, tests)))).1) (grind (arith, c.ne.ensures, c.if-ne.true))
+    (left_taken _ _ _ _ _ _ _ _ steps (λ x r q k. search (rules, tests))) (grind (arith, c.ne.ensures, c.if-ne.true))
 
 pub loop-number-init : goal.loop-number-init
 loop-number-init c =
     let steps = c.in_ok-next.ensures.steps in
     walk_begins _ _ _ _ _ _ _ steps.0 c.split-fields.ensures.rest
-    (left_next _ _ _ _ _ steps.0 steps.1 (steps.2 at_tab (computes _ _ (λ x r q k. search (rules, tests)))).1) c.requires
+    (left_taken _ _ _ _ _ _ _ _ steps (λ x r q k. search (rules, tests))) c.requires
     (grind (arith, c.ne.ensures, c.if-ne.false))
 
 -- the loop ends behind n numbers
@@ -34,7 +34,7 @@ returns-in_err-number c =
     let steps = c.in_ok-next-2.ensures.steps in
     c.from_residual-in_err-number.ensures
     ∙ walk_bad _ _ _ _ _ _ c.loop-number.invariant (omega (arith, ends_at c.args.n c.requires)) _ _
-    (left_next _ _ _ _ _ steps.0 steps.1 (steps.2 at_tab (computes _ _ (λ x r q k. search (rules, tests)))).1)
+    (left_taken _ _ _ _ _ _ _ _ steps (λ x r q k. search (rules, tests)))
     (sym c.read_number.ensures ∙ c.in_err-number.was)
 
 pub overflow_cast-number : goal.overflow_cast-number
@@ -44,7 +44,7 @@ pub loop-number-preserved : goal.loop-number-preserved
 loop-number-preserved c =
     let steps = c.in_ok-next-2.ensures.steps in
     walk_on _ _ _ _ _ _ c.loop-number.invariant (omega (arith, ends_at c.args.n c.requires)) _ _
-    (left_next _ _ _ _ _ steps.0 steps.1 (steps.2 at_tab (computes _ _ (λ x r q k. search (rules, tests)))).1) _
+    (left_taken _ _ _ _ _ _ _ _ steps (λ x r q k. search (rules, tests))) _
     (sym c.read_number.ensures ∙ c.in_ok-number.was)
 
 pub returns-in-None : goal.returns-in-None

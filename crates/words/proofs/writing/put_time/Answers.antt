@@ -1,5 +1,5 @@
 -- `words::writing::put_time` meets its contract: a tab, and the word or the number as the time says.
-use mathlib.Core.Path.{◌≡◌, sym}
+use mathlib.Core.Path.{◌≡◌, sym, ◌∙◌, ap}
 use Prim.Native.Nat.{ℕ}
 use Rattle.packet.specs.Table.{none}
 use Rattle.digits.specs.Numbers.{decimal}
@@ -28,5 +28,5 @@ returns-then-absent c =
 
 pub returns : goal.returns
 returns c =
-    put_as _ _ _ _ _ _ _ (placed _ c.if-absent.false)
+    put_as _ _ _ _ _ _ _ (ap (λ (k : ℕ). tab ∷ decimal k) c.from.ensures ∙ placed _ c.if-absent.false)
     (put_next 1 20 _ _ _ _ _ _ _ _ c.requires c.put_byte-next.ensures c.put_number.ensures)

@@ -1,8 +1,8 @@
--- `no_packets` holds the arrays of no packet.
+-- `Packets::none` holds the arrays of no packet.
 use mathlib.Core.Path.{refl}
 use Rattle.basics.specs.Lists.{padded}
 use Rattle.arrays.specs.Arrays.{arrays_of}
-use Rattle.arrays.proofs.build.no_packets.Goals as goal
+use Rattle.arrays.proofs.build.Packets.none.Goals as goal
 
 pub returns : goal.returns
 unfolding padded arrays_of
