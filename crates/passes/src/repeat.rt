@@ -30,12 +30,15 @@ pub fn rounds(list: [u16; 1024], traffic: &Traffic, pruning: u32, threshold: u32
         let passed = pass(&mut state, traffic, pruning, threshold);
         passes += 1;
         tries += passed.tries;
-        if let Some(times) = passed.table {
-            return Outcome {
-                times,
-                passes,
-                tries,
-            };
+        match passed.table {
+            Ok(times) => {
+                return Outcome {
+                    times,
+                    passes,
+                    tries,
+                };
+            }
+            Err(_) => {}
         }
     }
 }

@@ -8,10 +8,11 @@ use mesh::ALL_LINKS;
 use placing::place;
 use settling::{State, Turned, nothing_taken, settle};
 
-// What a pass leaves beside the state: the table, if it ran to the end of its list and was not broken off; and the times tried.
+// What a pass leaves beside the state: the table, as one of a pass that ran to the end of its list, or of one that was broken off; and the
+// times tried.
 #[derive(Clone, Copy)]
 pub struct Passed {
-    pub table: Option<[u32; 1024]>,
+    pub table: Result<[u32; 1024], [u32; 1024]>,
     pub tries: u64,
 }
 
@@ -35,14 +36,19 @@ pub fn pass(state: &mut State, traffic: &Traffic, pruning: u32, threshold: u32) 
             Placed::Nowhere { tries: tried } => {
                 tries += tried as u64;
                 match state.turn_away(at, packet, threshold) {
-                    Turned::Again => return Passed { table: None, tries },
+                    Turned::Again => {
+                        return Passed {
+                            table: Err(taken.times),
+                            tries,
+                        };
+                    }
                     Turned::Skipped => {}
                 }
             }
         }
     }
     Passed {
-        table: Some(taken.times),
+        table: Ok(taken.times),
         tries,
     }
 }
