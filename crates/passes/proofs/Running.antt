@@ -13,7 +13,7 @@ use Rattle.mesh.specs.Link.{all_links}
 use Rattle.load.specs.Load.{flow_at}
 use Rattle.kept.specs.Kept.{added}
 use Rattle.kept.specs.declared.finding.Taken.{Taken}
-use Rattle.std.specs.Prelude.{Option, None, Some}
+use Rattle.std.specs.Prelude.{Option, None, Ok, Err}
 use Rattle.marks.specs.Marks.{Honest}
 use Rattle.marks.proofs.Marking.{honest_start, honest_stamped}
 use Rattle.gaps.specs.declared.gap.Gap.{Gap}
@@ -134,7 +134,7 @@ module _ {t : Traffic} {f g : ℕ} {start : State} {marks : List (Option ℕ)} {
             }
 
         -- a packet goes to the front, and the pass is broken off
-        pub running_broken : then ≡ Again → Ran (packets_held t) f g start state record { table = None; tries = s.tries + m }
+        pub running_broken : then ≡ Again → Ran (packets_held t) f g start state record { table = Err s.taken.times; tries = s.tries + m }
         unfolding TableOf
         running_broken h =
             let p = placing run.ready run.going more goes in
@@ -145,13 +145,13 @@ module _ {t : Traffic} {f g : ℕ} {start : State} {marks : List (Option ℕ)} {
               list = ap (λ (k : Pass). k.list) left;
               fails = ap (λ (k : Pass). k.fails) left;
               tries = ap (λ (k : Pass). k.tries) left;
-              table = sym (ap (λ (k : Pass). k.whole) left);
+              table = (sym (ap (λ (k : Pass). k.whole) left), ap (λ (k : Pass). k.table) left, run.going.kept.times_long);
               carried = broken_carries run.ready run.going more p nowhere below;
               bounded = omega (arith, run.going.bounded, all_few run.ready run.going more p nowhere, (held_in t run.ready.few).few);
             }
 
   -- it runs to the end of its list
-  pub running_whole : t.count ≤ s.at → Ran (packets_held t) f g start s.state record { table = Some s.taken.times; tries = s.tries }
+  pub running_whole : t.count ≤ s.at → Ran (packets_held t) f g start s.state record { table = Ok s.taken.times; tries = s.tries }
   unfolding pass_from TableOf outcome list_of
   running_whole h =
       let ps = packets_held t in

@@ -11,7 +11,7 @@ use Rattle.basics.proofs.Each.{Each}
 use Rattle.basics.proofs.Lists.{fill_at}
 use Rattle.packet.specs.Packet.{Packet}
 use Rattle.order.specs.Order.{occurs}
-use Rattle.std.specs.Prelude.{None, Some}
+use Rattle.std.specs.Prelude.{Ok, Err}
 use Rattle.placing.specs.Traffic.{packets_held}
 use Rattle.load.specs.declared.traffic.Traffic.{Traffic}
 use Rattle.placing.proofs.Bridging.{packets_count, held_in}
@@ -104,12 +104,13 @@ module _ {t : Traffic} {f g : ℕ} {list : List ℕ} {s : State} {passes tries :
     over = pass_over (packets_held t) f g (list_of (length (packets_held t)) s) (fails_of (length (packets_held t)) s)
 
     -- one pass was broken off
-    pub searching_on : r.table ≡ None → Searching t f g list after (passes + 1) (tries + r.tries)
+    pub searching_on : {times : List ℕ} → r.table ≡ Err times → Searching t f g list after (passes + 1) (tries + r.tries)
     unfolding TableOf
-    searching_on w =
+    searching_on {times} w =
         let ps = packets_held t in
         let few = (held_in t search.ready.few).few in
-        let broken : over.whole ≡ false = rw w at ran.table in
+        let ends : (over.whole ≡ false) × (take (length (packets_held t)) times ≡ over.table) × (length times ≡ 1024) = rw w at ran.table in
+        let broken = ends.0 in
         let front : length (fails_of (length ps) s) ≡ length ps = fails_length s few search.carried in
         record {
           ready = search.ready;
@@ -128,7 +129,7 @@ module _ {t : Traffic} {f g : ℕ} {list : List ℕ} {s : State} {passes tries :
         }
 
     -- one pass ran to the end
-    pub searching_end : {times : List ℕ} → r.table ≡ Some times → Searched t f g list record { times = times; passes = passes + 1; tries = tries + r.tries }
+    pub searching_end : {times : List ℕ} → r.table ≡ Ok times → Searched t f g list record { times = times; passes = passes + 1; tries = tries + r.tries }
     unfolding TableOf found_of
     searching_end {times} w =
         let ps = packets_held t in

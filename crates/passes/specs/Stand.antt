@@ -1,5 +1,5 @@
 -- A pass as the code takes it, and what holds of it.
-use Rattle.std.specs.Prelude.{◌≡◌, true, false, List, Option, None, Some, ℕ, ◌+◌, ◌*◌, ◌≤◌, ◌<◌, length, get_or, take}
+use Rattle.std.specs.Prelude.{◌≡◌, true, false, List, Result, Ok, Err, ℕ, ◌+◌, ◌*◌, ◌≤◌, ◌<◌, length, get_or, take}
 use Rattle.std.proofs.Math.Seq.{slice}
 use Rattle.hyperperiod.specs.Hyper.{most}
 use Rattle.packet.specs.Packet.{Packet}
@@ -80,10 +80,10 @@ pub record Going (ps : List Packet) (f g : ℕ) (s : Stand) : Type 0 where
   pub tight : (q : ℕ) → q < length ps → placed (take (length ps) s.taken.times) q ≡ true → Tight ps f (take (length ps) s.taken.times) q
   pub bounded : s.tries ≤ s.at * 33554432
 
--- the table that a pass leaves, as the definition has it: there is one where the pass ran to the end of its list
-unfoldable pub TableOf : ℕ → Pass → Option (List ℕ) → Type 0
-TableOf n pass None = pass.whole ≡ false
-TableOf n pass (Some times) = (pass.whole ≡ true) × (take n times ≡ pass.table) × (length times ≡ 1024)
+-- the table that a pass leaves, as the definition has it: of a pass that ran to the end of its list, or of one that was broken off
+unfoldable pub TableOf : ℕ → Pass → Result (List ℕ) (List ℕ) → Type 0
+TableOf n pass (Ok times) = (pass.whole ≡ true) × (take n times ≡ pass.table) × (length times ≡ 1024)
+TableOf n pass (Err times) = (pass.whole ≡ false) × (take n times ≡ pass.table) × (length times ≡ 1024)
 
 -- what a pass asks: packets in time, and what is carried over
 pub record Runs (t : Traffic) (f g : ℕ) (s : State) : Type 0 where

@@ -5,3 +5,4 @@ mod repeat;
 mod walk;
 
 pub use repeat::{Outcome, rounds};
+pub use walk::Settings;

@@ -1,7 +1,7 @@
 // The passes, from a list of packets on, until one runs to the end of its list.
 ghost use Rattle.passes.specs.Search.{Searches, Searched};
 
-use crate::walk::pass;
+use crate::walk::{Settings, pass};
 use load::Traffic;
 use settling::State;
 
@@ -15,9 +15,9 @@ pub struct Outcome {
 
 // The passes: one that is broken off is followed by a new one, one that runs to the end is the result. The fail counts are never set
 // back.
-pub fn rounds(list: [u16; 1024], traffic: &Traffic, pruning: u32, threshold: u32) -> Outcome
-    requires { Searches traffic.now pruning threshold list }
-    ensures { Searched traffic.now pruning threshold list result }
+pub fn rounds(list: [u16; 1024], traffic: &Traffic, settings: Settings) -> Outcome
+    requires { Searches traffic.now settings.pruning settings.threshold list }
+    ensures { Searched traffic.now settings.pruning settings.threshold list result }
 {
     let mut state = State {
         order: list,
@@ -27,15 +27,18 @@ pub fn rounds(list: [u16; 1024], traffic: &Traffic, pruning: u32, threshold: u32
     let mut passes: u32 = 0;
     let mut tries: u64 = 0;
     loop {
-        let passed = pass(&mut state, traffic, pruning, threshold);
+        let passed = pass(&mut state, traffic, settings);
         passes += 1;
         tries += passed.tries;
-        if let Some(times) = passed.table {
-            return Outcome {
-                times,
-                passes,
-                tries,
-            };
+        match passed.table {
+            Ok(times) => {
+                return Outcome {
+                    times,
+                    passes,
+                    tries,
+                };
+            }
+            Err(_) => {}
         }
     }
 }

@@ -8,17 +8,25 @@ use mesh::ALL_LINKS;
 use placing::place;
 use settling::{State, Turned, nothing_taken, settle};
 
-// What a pass leaves beside the state: the table, if it ran to the end of its list and was not broken off; and the times tried.
+// The settings of a search: pruning factor F, threshold G.
+#[derive(Clone, Copy)]
+pub struct Settings {
+    pub pruning: u32,
+    pub threshold: u32,
+}
+
+// What a pass leaves beside the state: the table, as one of a pass that ran to the end of its list, or of one that was broken off; and the
+// times tried.
 #[derive(Clone, Copy)]
 pub struct Passed {
-    pub table: Option<[u32; 1024]>,
+    pub table: Result<[u32; 1024], [u32; 1024]>,
     pub tries: u64,
 }
 
 // A pass begins with nothing placed and takes the packets in list order. Placed, a packet stays in the list; else it is turned away.
-pub fn pass(state: &mut State, traffic: &Traffic, pruning: u32, threshold: u32) -> Passed
-    requires { Runs traffic.now pruning threshold state.old }
-    ensures { Ran (packets_held traffic.now) pruning threshold state.old state.new result }
+pub fn pass(state: &mut State, traffic: &Traffic, settings: Settings) -> Passed
+    requires { Runs traffic.now settings.pruning settings.threshold state.old }
+    ensures { Ran (packets_held traffic.now) settings.pruning settings.threshold state.old state.new result }
 {
     let mut taken = nothing_taken();
     let mut marks = [None; ALL_LINKS];
@@ -26,7 +34,13 @@ pub fn pass(state: &mut State, traffic: &Traffic, pruning: u32, threshold: u32) 
     // Kept: a packet that is turned away moves the packets before it, so the order is lent to no iterator.
     for at in state.base..traffic.count {
         let packet = state.order[at];
-        let gap = place(traffic, &taken, &mut marks, pruning, packet as usize);
+        let gap = place(
+            traffic,
+            &taken,
+            &mut marks,
+            settings.pruning,
+            packet as usize,
+        );
         match gap.placed {
             Placed::At { time, tries: tried } => {
                 settle(&mut taken, gap.spot, packet, time);
@@ -34,15 +48,20 @@ pub fn pass(state: &mut State, traffic: &Traffic, pruning: u32, threshold: u32) 
             }
             Placed::Nowhere { tries: tried } => {
                 tries += tried as u64;
-                match state.turn_away(at, packet, threshold) {
-                    Turned::Again => return Passed { table: None, tries },
+                match state.turn_away(at, packet, settings.threshold) {
+                    Turned::Again => {
+                        return Passed {
+                            table: Err(taken.times),
+                            tries,
+                        };
+                    }
                     Turned::Skipped => {}
                 }
             }
         }
     }
     Passed {
-        table: Some(taken.times),
+        table: Ok(taken.times),
         tries,
     }
 }

@@ -11,7 +11,7 @@ use arrays::Model;
 use keys::slacks;
 use load::{FlowEntry, Traffic};
 use order::by_flow;
-use passes::{Outcome, rounds};
+use passes::{Outcome, Settings, rounds};
 
 // The longest of the occupancies: none is above it.
 fn longest_of(flows: &[FlowEntry; 64]) -> u32
@@ -21,9 +21,9 @@ fn longest_of(flows: &[FlowEntry; 64]) -> u32
 }
 
 // The passes over a model that is not refused, from its packets in order of least slack.
-pub fn run(model: Model, pruning: u32, threshold: u32) -> Outcome
-    requires { Modelled model pruning threshold }
-    ensures { (found_of model.packets.count result ≡ search_of (packets_read model) pruning threshold) × (length result.times ≡ 1024) }
+pub fn run(model: Model, settings: Settings) -> Outcome
+    requires { Modelled model settings.pruning settings.threshold }
+    ensures { (found_of model.packets.count result ≡ search_of (packets_read model) settings.pruning settings.threshold) × (length result.times ≡ 1024) }
 {
     let key = slacks(model);
     let list = by_flow(
@@ -40,5 +40,5 @@ pub fn run(model: Model, pruning: u32, threshold: u32) -> Outcome
         longest: longest_of(&flows),
         back: backs_of(&flows, model.hyper),
     };
-    rounds(list, &traffic, pruning, threshold)
+    rounds(list, &traffic, settings)
 }

@@ -7,15 +7,16 @@ use crate::carrying::run;
 use arrays::model_of;
 use limits::out_of_range;
 use model::{Answer, Mesh, Refusal};
+use passes::Settings;
 use refusals::refusal;
 use reports::report;
 
 // 3: F outside 1 to 65,536 or G outside 1 to 16.
 #[tactic(auto, unfolding(crate::specs::Answering::settings_refusal, crate::specs::Answering::bad_settings, refusals::specs::Refusals::refuse_if))]
-fn refuse_settings(pruning: u32, threshold: u32) -> Result<(), Refusal>
-    ensures { result ≡ settings_refusal pruning threshold }
+fn refuse_settings(settings: Settings) -> Result<(), Refusal>
+    ensures { result ≡ settings_refusal settings.pruning settings.threshold }
 {
-    if out_of_range(1, 65_536, pruning) || out_of_range(1, 16, threshold) {
+    if out_of_range(1, 65_536, settings.pruning) || out_of_range(1, 16, settings.threshold) {
         return Err(Refusal::BadSettings);
     }
     Ok(())
@@ -25,22 +26,21 @@ fn refuse_settings(pruning: u32, threshold: u32) -> Result<(), Refusal>
 #[tactic(auto, using(crate::proofs::Entering::entry_fair, crate::proofs::Entering::model_packets), unfolding(crate::specs::Answering::answer_of, crate::specs::Answering::table_after, crate::specs::Answering::search_refusal, crate::specs::Answering::bad_table, refusals::specs::Refusals::refuse_if))]
 fn found(
     mesh: Mesh,
-    pruning: u32,
-    threshold: u32,
+    settings: Settings,
     numbers: &[u32],
     table: &mut [u32],
 ) -> Result<Answer, Refusal>
-    ensures answered { answer_by result ≡ answer_of mesh pruning threshold numbers.now table.old }
-    ensures written { table.new ≡ table_after mesh pruning threshold numbers.now table.old }
+    ensures answered { answer_by result ≡ answer_of mesh settings.pruning settings.threshold numbers.now table.old }
+    ensures written { table.new ≡ table_after mesh settings.pruning settings.threshold numbers.now table.old }
 {
-    refusal(mesh, refuse_settings(pruning, threshold), numbers)?;
+    refusal(mesh, refuse_settings(settings), numbers)?;
     let model = model_of(mesh, numbers);
     let hyper = model.hyper;
     let n = model.packets.count;
     if table.len() < n {
         return Err(Refusal::ShortTable);
     }
-    let outcome = run(model, pruning, threshold);
+    let outcome = run(model, settings);
     Ok(report(outcome, hyper, n, table))
 }
 
@@ -54,5 +54,6 @@ pub fn search(
 ) -> Answer
     ensures { (result ≡ answer_of mesh pruning threshold numbers.now table.old) × (table.new ≡ table_after mesh pruning threshold numbers.now table.old) }
 {
-    found(mesh, pruning, threshold, numbers, table).unwrap_or_else(Answer::from)
+    let settings = Settings { pruning, threshold };
+    found(mesh, settings, numbers, table).unwrap_or_else(Answer::from)
 }

@@ -13,11 +13,11 @@ overflow_add-passes c = omega (arith, passes_least c.loop-times.invariant)
 pub overflow_add-tries : goal.overflow_add-tries
 overflow_add-tries c = omega (arith, passes_least c.loop-times.invariant, c.loop-times.invariant.bounded, c.pass-passed.ensures.bounded)
 
-pub returns-in-Some : goal.returns-in-Some
-returns-in-Some c = searching_end c.loop-times.invariant c.pass-passed.ensures c.in-Some.is
+pub returns-in-Ok : goal.returns-in-Ok
+returns-in-Ok c = searching_end c.loop-times.invariant c.pass-passed.ensures c.in-Ok.is
 
 pub loop-times-smaller : goal.loop-times-smaller
 loop-times-smaller c = omega (arith, passes_left c.loop-times.invariant)
 
 pub loop-times-preserved : goal.loop-times-preserved
-loop-times-preserved c = searching_on c.loop-times.invariant c.pass-passed.ensures c.in_default.is
+loop-times-preserved c = searching_on c.loop-times.invariant c.pass-passed.ensures c.in-Err.is

@@ -4,4 +4,4 @@ use Rattle.passes.proofs.Running.{Running}
 use Rattle.passes.proofs.walk.pass.Given as goal
 
 abbrev pub invariant-loop-at : goal.invariant-loop-at
-invariant-loop-at l = Running l.traffic l.pruning l.threshold l.initial.state l.marks (stand_of l.state l.taken l.at l.tries)
+invariant-loop-at l = Running l.traffic l.settings.pruning l.settings.threshold l.initial.state l.marks (stand_of l.state l.taken l.at l.tries)

@@ -9,12 +9,12 @@ use Rattle.search.proofs.entry.found.Goals as goal
 pub run-outcome-requires : goal.run-outcome-requires
 run-outcome-requires c =
     let a = c.args in
-    let e : refusal_of a.mesh (settings_refusal a.pruning a.threshold) a.numbers.now ≡ accepted = grind arith in
-    model_holds a.mesh a.pruning a.threshold a.numbers.now a.table.now e c.model_of-model.result c.model_of-model.ensures
+    let e : refusal_of a.mesh (settings_refusal a.settings.pruning a.settings.threshold) a.numbers.now ≡ accepted = grind arith in
+    model_holds a.mesh a.settings.pruning a.settings.threshold a.numbers.now a.table.now e c.model_of-model.result c.model_of-model.ensures
 
 pub returns : goal.returns
 returns c =
     let a = c.args in
-    let e : refusal_of a.mesh (settings_refusal a.pruning a.threshold) a.numbers.now ≡ accepted = grind arith in
-    let r = entry_found a.mesh a.pruning a.threshold a.numbers.now a.table.now e c.model_of-model.result c.model_of-model.ensures c.run-outcome.result c.run-outcome.ensures.0 (omega (arith, c.if-table-n.false)) in
+    let e : refusal_of a.mesh (settings_refusal a.settings.pruning a.settings.threshold) a.numbers.now ≡ accepted = grind arith in
+    let r = entry_found a.mesh a.settings.pruning a.settings.threshold a.numbers.now a.table.now e c.model_of-model.result c.model_of-model.ensures c.run-outcome.result c.run-outcome.ensures.0 (omega (arith, c.if-table-n.false)) in
     record { answered = c.report.ensures.0 ∙ r.0; written = c.report.ensures.1 ∙ r.1 }
