@@ -32,6 +32,10 @@ line_at word n text at =
 unfoldable pub stored_at : List ℕ → ℕ → List ℕ → List ℕ
 stored_at numbers count flow = choose (ltb count most_kept) (paste numbers (per_flow * count) flow per_flow) numbers
 
+-- one flow line more: a flow's numbers in their place, and the line counted
+unfoldable pub with_line : Lines → List ℕ → Lines
+with_line lines flow = record { numbers = stored_at lines.numbers lines.count flow; count = lines.count + 1 }
+
 -- the flow lines of a text from line 3 on: their numbers and how many they are, or the first bad line
 unfoldable pub flow_lines : List (List ℕ) → Result Lines BadLine
 flow_lines parts =
