@@ -11,7 +11,6 @@ use lib.ListN.{length, drop, length-append, length-drop}
 use lib.Seq.{drop-length}
 use Rattle.std.specs.Prelude.{Result, Some, None, Ok, Err}
 use Rattle.basics.specs.Choose.{choose}
-use Rattle.basics.specs.Lists.{padded}
 use Rattle.model.specs.Flows.{per_flow}
 use Rattle.words.specs.Bytes.{bytes}
 use Rattle.records.specs.Records.{split_by, fields_of, is_record, numbers_in}
@@ -129,11 +128,11 @@ module _ (text : List ℕ) (from at : ℕ) (read : Lines) (s : Flowing text from
       flows_bad (parts_of (drop from text)) (read.count + 3) (omega arith)
       (sym s.bad ∙ line_bad (bytes "flow") text per_flow (read.count + 3) at (flow_kind read.count) s.within (rw some) e)
 
-  module _ (r : Line) (e : line_at (bytes "flow") per_flow text at ≡ Some r) where
+  module _ (r : Line per_flow) (e : line_at (bytes "flow") per_flow text at ≡ Some r) where
     -- the place behind a good line
     flowing_next : r.next ≡ feed_from text at + 1
     unfolding good_from
-    flowing_next = ap (λ (x : Line). x.next) (line_from_lem (bytes "flow") text per_flow at r e)
+    flowing_next = ap (λ (x : Line per_flow). x.next) (line_from_lem (bytes "flow") text per_flow at r e)
 
     -- less of the text is left behind it
     pub flowing_less : length text - r.next < length text - at
@@ -142,10 +141,8 @@ module _ (text : List ℕ) (from at : ℕ) (read : Lines) (s : Flowing text from
 
     -- the numbers of a good line
     flowing_numbers : r.numbers ≡ numbers_in (line_from text at)
-    unfolding good_from padded
-    flowing_numbers =
-        ap (λ (x : Line). x.numbers) (line_from_lem (bytes "flow") text per_flow at r e)
-        ∙ rw (record_count (bytes "flow") (line_from text at) per_flow (line_is (bytes "flow") text per_flow at r e)) (append-nil (numbers_in (line_from text at)))
+    unfolding good_from
+    flowing_numbers = ap (λ (x : Line per_flow). x.numbers) (line_from_lem (bytes "flow") text per_flow at r e)
 
     -- a good line
     pub flowing_on : Flowing text from r.next (with_line read r.numbers)

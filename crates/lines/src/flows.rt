@@ -5,7 +5,6 @@ ghost use Rattle.lines.specs.Steps.{with_line, flow_lines};
 
 use crate::taking::read_line;
 use model::PER_FLOW;
-use records::MOST_NUMBERS;
 use words::FLOW;
 
 // The most flows whose numbers are kept: 65 are enough to be refused.
@@ -24,7 +23,7 @@ pub struct Lines {
 
 impl Lines {
     // One flow line more, which is counted; its numbers are kept unless the most flows are.
-    fn push(&mut self, flow: &[u32; MOST_NUMBERS])
+    fn push(&mut self, flow: &[u32; PER_FLOW])
         requires { self.old.count < limit }
         ensures { self.new ≡ with_line self.old flow.now }
     {
@@ -59,7 +58,7 @@ pub fn read_flows(text: &[u8], from: usize) -> Result<Lines, BadLine>
         let bad = BadLine {
             line: (lines.count + 3) as u32,
         };
-        let line = read_line(text, at, &FLOW, PER_FLOW).ok_or(bad)?;
+        let line = read_line::<PER_FLOW>(text, at, &FLOW).ok_or(bad)?;
         lines.push(&line.numbers);
         at = line.next;
     }
