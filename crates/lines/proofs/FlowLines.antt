@@ -11,13 +11,12 @@ use lib.ListN.{length, drop, length-append, length-drop}
 use lib.Seq.{drop-length}
 use Rattle.std.specs.Prelude.{Result, Some, None, Ok, Err}
 use Rattle.basics.specs.Choose.{choose}
-use Rattle.basics.specs.Lists.{padded}
 use Rattle.model.specs.Flows.{per_flow}
 use Rattle.words.specs.Bytes.{bytes}
 use Rattle.records.specs.Records.{split_by, fields_of, is_record, numbers_in}
 use Rattle.records.proofs.Recording.{record_count}
 use Rattle.lines.specs.Form.{limit, good_line, bad_line, parts_of, all_numbers, flows_kept}
-use Rattle.lines.specs.Steps.{line_from, feed_from, good_from, line_at, stored_at, flow_lines}
+use Rattle.lines.specs.Steps.{line_from, feed_from, good_from, line_at, stored_at, with_line, flow_lines}
 use Rattle.lines.specs.declared.taking.Line.{Line}
 use Rattle.lines.specs.declared.flows.Lines.{Lines}
 use Rattle.lines.specs.declared.flows.BadLine.{BadLine}
@@ -70,20 +69,20 @@ flows_ok parts lines = go (eqb (bad_line 3 parts) 0) refl
 -- ---- the loop
 
 -- so many flows are read, and the numbers of the first of them are kept; the lines from `at` on decide, and hold the other numbers
-pub record Flowing (text : List ℕ) (from at count : ℕ) (numbers : List ℕ) : Type 0 where
+pub record Flowing (text : List ℕ) (from at : ℕ) (read : Lines) : Type 0 where
   pub within : at ≤ length text
   pub small : length text ≤ limit
-  pub few : count ≤ at
+  pub few : read.count ≤ at
   pub done : List ℕ
-  pub size : length done ≡ per_flow * count
-  pub array : numbers ≡ flows_kept done
-  pub bad : bad_line (count + 3) (parts_of (drop at text)) ≡ bad_line 3 (parts_of (drop from text))
+  pub size : length done ≡ per_flow * read.count
+  pub array : read.numbers ≡ flows_kept done
+  pub bad : bad_line (read.count + 3) (parts_of (drop at text)) ≡ bad_line 3 (parts_of (drop from text))
   pub values : done ++ all_numbers (parts_of (drop at text)) ≡ all_numbers (parts_of (drop from text))
-  pub lines : count + length (parts_of (drop at text)) ≡ length (parts_of (drop from text))
+  pub lines : read.count + length (parts_of (drop at text)) ≡ length (parts_of (drop from text))
 
 -- none is read yet
 pub flowing_begins : (text : List ℕ) (from : ℕ) (numbers : List ℕ) → from ≤ length text → length text ≤ limit → numbers ≡ flows_kept []
-    → Flowing text from from 0 numbers
+    → Flowing text from from (record { numbers = numbers; count = 0 })
 flowing_begins text from numbers h k e = record {
   within = h;
   small = k;
@@ -96,7 +95,7 @@ flowing_begins text from numbers h k e = record {
   lines = omega arith;
 }
 
-module _ (text : List ℕ) (from at count : ℕ) (numbers : List ℕ) (s : Flowing text from at count numbers) where
+module _ (text : List ℕ) (from at : ℕ) (read : Lines) (s : Flowing text from at read) where
   -- behind the last line feed nothing is left
   flowing_last : length text ≤ at → parts_of (drop at text) ≡ [] ∷ []
   unfolding parts_of split_by
@@ -106,7 +105,7 @@ module _ (text : List ℕ) (from at count : ℕ) (numbers : List ℕ) (s : Flowi
   -- no line was bad
   flowing_none : length text ≤ at → bad_line 3 (parts_of (drop from text)) ≡ 0
   unfolding bad_line
-  flowing_none h = sym s.bad ∙ ap (bad_line (count + 3)) (flowing_last h) ∙ rw (lt-ltb 2 (count + 3) (omega arith))
+  flowing_none h = sym s.bad ∙ ap (bad_line (read.count + 3)) (flowing_last h) ∙ rw (lt-ltb 2 (read.count + 3) (omega arith))
 
   -- all numbers are read
   flowing_all : length text ≤ at → s.done ≡ all_numbers (parts_of (drop from text))
@@ -115,25 +114,25 @@ module _ (text : List ℕ) (from at count : ℕ) (numbers : List ℕ) (s : Flowi
       sym (append-nil s.done) ∙ ap (λ (l : List (List ℕ)). s.done ++ all_numbers l) (sym (flowing_last h)) ∙ s.values
 
   -- the text ends
-  pub flowing_ends : length text ≤ at → Ok (record { numbers = numbers; count = count }) ≡ flow_lines (parts_of (drop from text))
+  pub flowing_ends : length text ≤ at → Ok read ≡ flow_lines (parts_of (drop from text))
   flowing_ends h =
-      let lines : count ≡ length (parts_of (drop from text)) - 1 = omega (arith, s.lines, ap length (flowing_last h)) in
-      ap (λ (l : List ℕ). Ok (record { numbers = l; count = count })) (s.array ∙ ap flows_kept (flowing_all h))
+      let lines : read.count ≡ length (parts_of (drop from text)) - 1 = omega (arith, s.lines, ap length (flowing_last h)) in
+      ap (λ (l : List ℕ). Ok (record { numbers = l; count = read.count })) (s.array ∙ ap flows_kept (flowing_all h))
       ∙ ap (λ (k : ℕ). Ok (record { numbers = flows_kept (all_numbers (parts_of (drop from text))); count = k })) lines
       ∙ flows_good (parts_of (drop from text)) (flowing_none h)
 
   -- a bad line
-  pub flowing_bad : at < length text → line_at (bytes "flow") per_flow text at ≡ None → Err (record { line = count + 3 }) ≡ flow_lines (parts_of (drop from text))
+  pub flowing_bad : at < length text → line_at (bytes "flow") per_flow text at ≡ None → Err (record { line = read.count + 3 }) ≡ flow_lines (parts_of (drop from text))
   flowing_bad h e =
       let some : eqb (length (drop at text)) 0 ≡ false = ne_eqb (length (drop at text)) 0 (omega (arith, length-drop at text)) in
-      flows_bad (parts_of (drop from text)) (count + 3) (omega arith)
-      (sym s.bad ∙ line_bad (bytes "flow") text per_flow (count + 3) at (flow_kind count) s.within (rw some) e)
+      flows_bad (parts_of (drop from text)) (read.count + 3) (omega arith)
+      (sym s.bad ∙ line_bad (bytes "flow") text per_flow (read.count + 3) at (flow_kind read.count) s.within (rw some) e)
 
-  module _ (r : Line) (e : line_at (bytes "flow") per_flow text at ≡ Some r) where
+  module _ (r : Line per_flow) (e : line_at (bytes "flow") per_flow text at ≡ Some r) where
     -- the place behind a good line
     flowing_next : r.next ≡ feed_from text at + 1
     unfolding good_from
-    flowing_next = ap (λ (x : Line). x.next) (line_from_lem (bytes "flow") text per_flow at r e)
+    flowing_next = ap (λ (x : Line per_flow). x.next) (line_from_lem (bytes "flow") text per_flow at r e)
 
     -- less of the text is left behind it
     pub flowing_less : length text - r.next < length text - at
@@ -142,16 +141,13 @@ module _ (text : List ℕ) (from at count : ℕ) (numbers : List ℕ) (s : Flowi
 
     -- the numbers of a good line
     flowing_numbers : r.numbers ≡ numbers_in (line_from text at)
-    unfolding good_from padded
-    flowing_numbers =
-        ap (λ (x : Line). x.numbers) (line_from_lem (bytes "flow") text per_flow at r e)
-        ∙ rw (record_count (bytes "flow") (line_from text at) per_flow (line_is (bytes "flow") text per_flow at r e)) (append-nil (numbers_in (line_from text at)))
+    unfolding good_from
+    flowing_numbers = ap (λ (x : Line per_flow). x.numbers) (line_from_lem (bytes "flow") text per_flow at r e)
 
     -- a good line
-    pub flowing_on : (stored : List ℕ) → stored ≡ stored_at numbers count r.numbers
-        → Flowing text from r.next (count + 1) stored
-    unfolding all_numbers feed_from
-    flowing_on stored f =
+    pub flowing_on : Flowing text from r.next (with_line read r.numbers)
+    unfolding all_numbers feed_from with_line
+    flowing_on =
         let line = line_from text at in
         let size : length (numbers_in line) ≡ per_flow = record_count (bytes "flow") line per_flow (line_is (bytes "flow") text per_flow at r e) in
         let ends = line_ends (bytes "flow") text per_flow at r e in
@@ -165,14 +161,13 @@ module _ (text : List ℕ) (from at count : ℕ) (numbers : List ℕ) (s : Flowi
           done = s.done ++ numbers_in line;
           size = omega (arith, length-append s.done (numbers_in line), size, s.size);
           array =
-              f
-              ∙ ap (λ (l : List ℕ). stored_at l count r.numbers) s.array
-              ∙ ap (stored_at (flows_kept s.done) count) flowing_numbers
-              ∙ kept_more s.done (numbers_in line) count s.size size;
+              ap (λ (l : List ℕ). stored_at l read.count r.numbers) s.array
+              ∙ ap (stored_at (flows_kept s.done) read.count) flowing_numbers
+              ∙ kept_more s.done (numbers_in line) read.count s.size size;
           bad =
-              ap (λ (k : ℕ). bad_line k (parts_of (drop r.next text))) (let k : count + 1 + 3 ≡ suc (count + 3) = omega arith in k)
-              ∙ ap (λ (k : ℕ). bad_line (suc (count + 3)) (parts_of (drop k text))) next
-              ∙ sym (line_good (bytes "flow") text per_flow (count + 3) at (flow_kind count) r e)
+              ap (λ (k : ℕ). bad_line k (parts_of (drop r.next text))) (let k : read.count + 1 + 3 ≡ suc (read.count + 3) = omega arith in k)
+              ∙ ap (λ (k : ℕ). bad_line (suc (read.count + 3)) (parts_of (drop k text))) next
+              ∙ sym (line_good (bytes "flow") text per_flow (read.count + 3) at (flow_kind read.count) r e)
               ∙ s.bad;
           values =
               append_assoc s.done (numbers_in line) (all_numbers (parts_of (drop r.next text)))

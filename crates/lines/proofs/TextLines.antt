@@ -11,11 +11,10 @@ use lib.ListN.{length, take, drop, length-drop}
 use lib.Seq.{drop-drop, take_all}
 use Rattle.std.specs.Prelude.{Some, None}
 use Rattle.basics.specs.Choose.{both}
-use Rattle.basics.specs.Lists.{padded}
 use Rattle.basics.proofs.Choose.{both_not, both_first, both_second}
 use Rattle.digits.proofs.Chosen.{chosen_none, chosen_some}
 use Rattle.words.specs.Bytes.{feed}
-use Rattle.records.specs.Records.{index_of, place_from, is_record, numbers_in, most_numbers, record_of}
+use Rattle.records.specs.Records.{index_of, place_from, is_record, numbers_in, record_of}
 use Rattle.records.proofs.Places.{place_none, place_some, index_le, behind, split_at_first, behind_at, behind_end}
 use Rattle.records.proofs.Recording.{record_none, record_some}
 use Rattle.lines.specs.Form.{good_line, bad_line, parts_of}
@@ -51,7 +50,7 @@ module _ (word text : List ℕ) (n at : ℕ) where
         let place = place_some feed text at end e in
         let good = record_some word (take (end - at) (drop at text)) n numbers f in
         let passes : is_record word n (line_from text at) ≡ true = ap (is_record word n) (sym line_slice) ∙ good.0 in
-        let same : padded most_numbers 0 (numbers_in (line_from text at)) ≡ numbers = ap (λ (l : List ℕ). padded most_numbers 0 (numbers_in l)) (sym line_slice) ∙ good.1 in
+        let same : numbers_in (line_from text at) ≡ numbers = ap numbers_in (sym line_slice) ∙ good.1 in
         sym (rw (← place.0, lt-ltb end (length text) place.1, passes, same))
 
 -- ---- what a line that `read_line` answers says
@@ -60,22 +59,22 @@ module _ (word text : List ℕ) (n at : ℕ) where
   -- no good line: no line feed ends it, or it is no record
   line_none : line_at word n text at ≡ None → both (ltb (feed_from text at) (length text)) (is_record word n (line_from text at)) ≡ false
   unfolding line_at
-  line_none = chosen_none (both (ltb (feed_from text at) (length text)) (is_record word n (line_from text at))) (good_from text at)
+  line_none = chosen_none (both (ltb (feed_from text at) (length text)) (is_record word n (line_from text at))) (good_from n text at)
 
   -- a good line ends within the text, is a record, and has its numbers
-  line_some : (r : Line) → line_at word n text at ≡ Some r
-      → (both (ltb (feed_from text at) (length text)) (is_record word n (line_from text at)) ≡ true) × (good_from text at ≡ r)
+  line_some : (r : Line n) → line_at word n text at ≡ Some r
+      → (both (ltb (feed_from text at) (length text)) (is_record word n (line_from text at)) ≡ true) × (good_from n text at ≡ r)
   unfolding line_at
-  line_some r = chosen_some (both (ltb (feed_from text at) (length text)) (is_record word n (line_from text at))) (good_from text at) r
+  line_some r = chosen_some (both (ltb (feed_from text at) (length text)) (is_record word n (line_from text at))) (good_from n text at) r
 
-  pub line_ends : (r : Line) → line_at word n text at ≡ Some r → feed_from text at < length text
+  pub line_ends : (r : Line n) → line_at word n text at ≡ Some r → feed_from text at < length text
   line_ends r e =
       ltb-true (feed_from text at) (length text) (both_first (ltb (feed_from text at) (length text)) (is_record word n (line_from text at)) (line_some r e).0)
 
-  pub line_is : (r : Line) → line_at word n text at ≡ Some r → is_record word n (line_from text at) ≡ true
+  pub line_is : (r : Line n) → line_at word n text at ≡ Some r → is_record word n (line_from text at) ≡ true
   line_is r e = both_second (ltb (feed_from text at) (length text)) (is_record word n (line_from text at)) (line_some r e).0
 
-  pub line_from_lem : (r : Line) → line_at word n text at ≡ Some r → r ≡ good_from text at
+  pub line_from_lem : (r : Line n) → line_at word n text at ≡ Some r → r ≡ good_from n text at
   line_from_lem r e = sym (line_some r e).1
 
 -- ---- the parts from a place on
@@ -131,7 +130,7 @@ module _ (word text : List ℕ) (m n at : ℕ) (kind : (line : List ℕ) → goo
       go false f = ap (bad_line n) (parts_last text at h (ltb-false (feed_from text at) (length text) f)) ∙ rw k
 
   -- behind a good line the first bad one is the same
-  pub line_good : (r : Line) → line_at word m text at ≡ Some r
+  pub line_good : (r : Line m) → line_at word m text at ≡ Some r
       → bad_line n (parts_of (drop at text)) ≡ bad_line (suc n) (parts_of (drop (feed_from text at + 1) text))
   line_good r e =
       ap (bad_line n) (parts_on text at (line_ends word text m at r e))

@@ -1,11 +1,10 @@
 // The flow lines, with the numbers that are kept of them.
-ghost use Rattle.std.specs.Prelude.{◌≡◌, ◌≤◌, length, drop};
+ghost use Rattle.std.specs.Prelude.{◌≡◌, ◌≤◌, ◌<◌, length, drop};
 ghost use Rattle.lines.specs.Form.{limit, parts_of};
-ghost use Rattle.lines.specs.Steps.{stored_at, flow_lines};
+ghost use Rattle.lines.specs.Steps.{with_line, flow_lines};
 
 use crate::taking::read_line;
 use model::PER_FLOW;
-use records::MOST_NUMBERS;
 use words::FLOW;
 
 // The most flows whose numbers are kept: 65 are enough to be refused.
@@ -22,21 +21,26 @@ pub struct Lines {
     pub count: usize,
 }
 
+impl Lines {
+    // One flow line more, which is counted; its numbers are kept unless the most flows are.
+    fn push(&mut self, flow: &[u32; PER_FLOW])
+        requires { self.old.count < limit }
+        ensures { self.new ≡ with_line self.old flow.now }
+    {
+        let count = self.count;
+        self.count += 1;
+        let full = MOST_KEPT <= count;
+        if !full {
+            let at = PER_FLOW * count;
+            self.numbers[at..at + PER_FLOW].copy_from_slice(flow);
+        }
+    }
+}
+
 // The first bad line of a text, counted from 1.
 #[derive(Clone, Copy, Debug, PartialEq, Eq)]
 pub struct BadLine {
     pub line: u32,
-}
-
-// Stores a flow's numbers in their place; a flow past the most that are kept leaves the array.
-fn store(numbers: &mut [u32; KEPT_NUMBERS], count: usize, flow: &[u32; MOST_NUMBERS])
-    ensures { numbers.new ≡ stored_at numbers.old count flow.now }
-{
-    let full = MOST_KEPT <= count;
-    if !full {
-        let at = PER_FLOW * count;
-        numbers[at..at + PER_FLOW].copy_from_slice(flow);
-    }
 }
 
 // The flow lines from a place on, of which the first is line 3.
@@ -54,9 +58,8 @@ pub fn read_flows(text: &[u8], from: usize) -> Result<Lines, BadLine>
         let bad = BadLine {
             line: (lines.count + 3) as u32,
         };
-        let line = read_line(text, at, &FLOW, PER_FLOW).ok_or(bad)?;
-        store(&mut lines.numbers, lines.count, &line.numbers);
-        lines.count += 1;
+        let line = read_line::<PER_FLOW>(text, at, &FLOW).ok_or(bad)?;
+        lines.push(&line.numbers);
         at = line.next;
     }
     Ok(lines)

@@ -8,16 +8,14 @@ use lib.Dec.{eqb, ltb}
 use lib.ListN.{length, get_or, drop}
 use Rattle.std.specs.Prelude.{Some, None, Ok, Err}
 use Rattle.basics.proofs.Choose.{both_not}
-use Rattle.basics.proofs.Lists.{padded_at}
 use Rattle.words.specs.Bytes.{bytes}
-use Rattle.records.specs.Records.{is_record, numbers_in, most_numbers}
-use Rattle.records.proofs.Recording.{record_count}
+use Rattle.records.specs.Records.{is_record, numbers_in}
 use Rattle.lines.specs.Form.{limit, good_line, bad_line, parts_of, all_numbers, flows_kept}
 use Rattle.lines.specs.Steps.{line_from, feed_from, good_from, line_at, flow_lines}
 use Rattle.lines.specs.declared.taking.Line.{Line}
 use Rattle.lines.specs.declared.flows.Lines.{Lines}
 use Rattle.lines.specs.declared.flows.BadLine.{BadLine}
-use Rattle.lines.proofs.TextLines.{line_ends, line_is, line_from_lem, parts_on, line_bad, line_good}
+use Rattle.lines.proofs.TextLines.{line_ends, line_from_lem, parts_on, line_bad, line_good}
 use Rattle.lines.proofs.FlowLines.{flows_err, flows_ok}
 use Rattle.reader.specs.Reader.{mesh_of, well_formed, input_in, input_of}
 use Rattle.reader.specs.declared.reading.Input.{Input}
@@ -43,19 +41,16 @@ input_good text h e = sym (rw (le-ltb limit (length text) h, e))
 -- ---- lines that are good
 
 -- the numbers of a good line, with the place behind it
-next_of : (word text : List ℕ) (n at : ℕ) (r : Line) → line_at word n text at ≡ Some r → r.next ≡ feed_from text at + 1
+next_of : (word text : List ℕ) (n at : ℕ) (r : Line n) → line_at word n text at ≡ Some r → r.next ≡ feed_from text at + 1
 unfolding good_from
-next_of word text n at r e = ap (λ (x : Line). x.next) (line_from_lem word text n at r e)
+next_of word text n at r e = ap (λ (x : Line n). x.next) (line_from_lem word text n at r e)
 
-number_at : (word text : List ℕ) (n at : ℕ) (r : Line) → line_at word n text at ≡ Some r
-    → (i : ℕ) → i < n → get_or r.numbers i 0 ≡ get_or (numbers_in (line_from text at)) i 0
+numbers_are : (word text : List ℕ) (n at : ℕ) (r : Line n) → line_at word n text at ≡ Some r → r.numbers ≡ numbers_in (line_from text at)
 unfolding good_from
-number_at word text n at r e i h =
-    ap (λ (x : Line). get_or x.numbers i 0) (line_from_lem word text n at r e)
-    ∙ padded_at most_numbers 0 (numbers_in (line_from text at)) i 0 (omega (arith, record_count word (line_from text at) n (line_is word text n at r e)))
+numbers_are word text n at r e = ap (λ (x : Line n). x.numbers) (line_from_lem word text n at r e)
 
 -- a good line ends within the text
-pub next_within : (word text : List ℕ) (n at : ℕ) (r : Line) → line_at word n text at ≡ Some r → r.next ≤ length text
+pub next_within : (word text : List ℕ) (n at : ℕ) (r : Line n) → line_at word n text at ≡ Some r → r.next ≤ length text
 next_within word text n at r e = omega (arith, next_of word text n at r e, line_ends word text n at r e)
 
 -- ---- line after line
@@ -92,7 +87,7 @@ module _ (text : List ℕ) (small : length text ≤ limit) where
   first_bad e =
       input_bad text 1 small (line_bad (bytes "mesh") text 4 1 0 mesh_kind (omega arith) (both_not (eqb (length text) 0) (ltb 2 1) refl) e) (omega arith)
 
-  module _ (first : Line) (e₁ : line_at (bytes "mesh") 4 text 0 ≡ Some first) where
+  module _ (first : Line 4) (e₁ : line_at (bytes "mesh") 4 text 0 ≡ Some first) where
     -- line 2 decides
     from_second : bad_line 1 (parts_of text) ≡ bad_line 2 (parts_of (drop first.next text))
     from_second =
@@ -108,7 +103,7 @@ module _ (text : List ℕ) (small : length text ≤ limit) where
         (both_not (eqb (length (drop first.next text)) 0) (ltb 2 2) refl) e)
         (omega arith)
 
-    module _ (second : Line) (e₂ : line_at (bytes "search") 2 text first.next ≡ Some second) where
+    module _ (second : Line 2) (e₂ : line_at (bytes "search") 2 text first.next ≡ Some second) where
       -- the flow lines decide
       from_third : bad_line 1 (parts_of text) ≡ bad_line 3 (parts_of (drop second.next text))
       from_third =
@@ -142,12 +137,8 @@ module _ (text : List ℕ) (small : length text ≤ limit) where
           let kept = sym good.1 in
           let count : rest.count ≡ length (parts_of text) - 3 = omega (arith, ap (λ (x : Lines). x.count) kept, ap length parts_are) in
           rw (
-            number_at (bytes "mesh") text 4 0 first e₁ 0 (omega arith),
-            number_at (bytes "mesh") text 4 0 first e₁ 1 (omega arith),
-            number_at (bytes "mesh") text 4 0 first e₁ 2 (omega arith),
-            number_at (bytes "mesh") text 4 0 first e₁ 3 (omega arith),
-            number_at (bytes "search") text 2 first.next second e₂ 0 (omega arith),
-            number_at (bytes "search") text 2 first.next second e₂ 1 (omega arith),
+            numbers_are (bytes "mesh") text 4 0 first e₁,
+            numbers_are (bytes "search") text 2 first.next second e₂,
             ap (λ (x : Lines). x.numbers) kept,
             count,
           )

@@ -63,11 +63,11 @@ pub fn read(text: &[u8]) -> Result<Input, Malformed>
     if LIMIT < text.len() {
         return Err(Malformed::TooLong);
     }
-    let first = read_line(text, 0, &MESH, 4).ok_or(Malformed::Line(1))?;
-    let second = read_line(text, first.next, &SEARCH, 2).ok_or(Malformed::Line(2))?;
+    let first = read_line::<4>(text, 0, &MESH).ok_or(Malformed::Line(1))?;
+    let second = read_line::<2>(text, first.next, &SEARCH).ok_or(Malformed::Line(2))?;
     let Lines { numbers, count } = read_flows(text, second.next)?;
-    let [columns, rows, r, flit, _] = first.numbers;
-    let [pruning, threshold, ..] = second.numbers;
+    let [columns, rows, r, flit] = first.numbers;
+    let [pruning, threshold] = second.numbers;
     Ok(Input {
         mesh: Mesh {
             columns,

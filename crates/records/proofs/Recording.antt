@@ -9,24 +9,23 @@ use denote.Param.Members.{Mut}
 use denote.Ref.{Bor}
 use lib.Dec.{eqb}
 use lib.Pointwise.{pointwise}
-use lib.ListN.{length, get_or, set, take, drop, replicate, length-append, length-map}
+use lib.ListN.{length, get_or, set, take, length-map}
+use lib.Seq.{take_all}
 use Rattle.std.specs.Prelude.{Some, None, cond}
 use Rattle.std.specs.Bool.{MatchBool}
 use Rattle.std.specs.Fn.{ComputesKey, CalledAt}
 use Rattle.std.specs.List.{All, slice_split, onto_first, IsFirstMatchOrLen}
 use Rattle.std.proofs.lemmas.Fn.{always_returns_same}
 use Rattle.std.proofs.lemmas.Grind.{common_steps}
-use Rattle.std.proofs.lemmas.List.{take-replicate, drop-replicate}
+use Rattle.std.proofs.lemmas.List.{length-set, take_more_set}
 use Rattle.std.proofs.lemmas.List.Splits.{slice_split_none, slice_split_at}
 use Rattle.basics.specs.Choose.{both}
-use Rattle.basics.specs.Lists.{padded}
 use Rattle.basics.proofs.Choose.{both_second}
-use Rattle.basics.proofs.Lists.{padded_push}
 use Rattle.digits.specs.Numbers.{is_number, value_of, number_of}
 use Rattle.digits.proofs.Chosen.{chosen_none, chosen_some}
 use Rattle.digits.proofs.Spelling.{bad_number, good_number}
 use Rattle.words.specs.Bytes.{tab, same_bytes}
-use Rattle.records.specs.Records.{onto, split_by, largest, are_numbers, fields_of, is_record, numbers_in, most_numbers, record_of}
+use Rattle.records.specs.Records.{onto, split_by, largest, are_numbers, fields_of, is_record, numbers_in, record_of}
 use Rattle.records.proofs.Places.{split_at_first}
 
 -- ---- the fields that are left
@@ -104,20 +103,18 @@ unfolding record_of
 not_record word line n e = sym (rw e)
 
 -- a line that passes is a record with its numbers
-a_record : (word line : List ℕ) (n : ℕ) → is_record word n line ≡ true → Some (padded most_numbers 0 (numbers_in line)) ≡ record_of word n line
+a_record : (word line : List ℕ) (n : ℕ) → is_record word n line ≡ true → Some (numbers_in line) ≡ record_of word n line
 unfolding record_of
 a_record word line n e = sym (rw e)
 
 -- ---- the walk
 
--- i numbers are read, and stand in the array; the fields that are left decide, and hold the other numbers
+-- i numbers are read, and stand first of the n; the fields that are left decide, and hold the other numbers
 pub record Walked (word line : List ℕ) (n : ℕ) (rest : List (List ℕ)) (numbers : List ℕ) (i : ℕ) : Type 0 where
   pub within : i ≤ n
-  pub done : List ℕ
-  pub count : length done ≡ i
-  pub array : numbers ≡ padded n 0 done
+  pub room : length numbers ≡ n
   pub test : are_numbers (n - i) rest ≡ is_record word n line
-  pub values : done ++ map value_of rest ≡ numbers_in line
+  pub values : take i numbers ++ map value_of rest ≡ numbers_in line
 
 -- ---- the word
 
@@ -146,13 +143,11 @@ module _ (word line field text : List ℕ) (n : ℕ) (rest : List (List ℕ)) (b
   wrong_word w = not_record word line n (rw (fields_are, same_is field word ∙ w))
 
   -- the word, and no number is read
-  pub walk_begins : n ≤ most_numbers → pointwise eqb field word ≡ true → Walked word line n rest (take n (replicate most_numbers 0)) 0
-  unfolding is_record numbers_in padded
-  walk_begins h w = record {
+  pub walk_begins : (numbers : List ℕ) → length numbers ≡ n → pointwise eqb field word ≡ true → Walked word line n rest numbers 0
+  unfolding is_record numbers_in
+  walk_begins numbers room w = record {
     within = omega arith;
-    done = [];
-    count = refl;
-    array = take-replicate n most_numbers 0 h ∙ ap (λ (m : ℕ). replicate {A = ℕ} m 0) (let m : n ≡ n - 0 = omega arith in m);
+    room = room;
     test = ap (λ (m : ℕ). are_numbers m rest) (let m : n - 0 ≡ n = omega arith in m) ∙ sym (rw (fields_are, same_is field word ∙ w));
     values = sym (rw fields_are);
   }
@@ -179,18 +174,14 @@ module _ (word line : List ℕ) (n : ℕ) (rest : List (List ℕ)) (numbers : Li
       go (field ∷ l) h = refl
 
   -- the line ends behind its last number
-  pub walk_ends : n ≤ most_numbers → n ≤ i → rest ≡ [] → Some (numbers ++ drop n (replicate most_numbers 0)) ≡ record_of word n line
-  unfolding are_numbers padded
-  walk_ends m h e =
+  pub walk_ends : n ≤ i → rest ≡ [] → Some numbers ≡ record_of word n line
+  unfolding are_numbers
+  walk_ends h e =
       let none : n - i ≡ 0 = omega arith in
-      let full : length s.done ≡ n = omega (arith, s.count, s.within) in
-      let whole : s.done ≡ numbers_in line = sym (append-nil s.done) ∙ ap (λ (l : List (List ℕ)). s.done ++ map value_of l) (sym e) ∙ s.values in
-      let front : numbers ≡ s.done = s.array ∙ ap (λ (k : ℕ). s.done ++ replicate {A = ℕ} k 0) (let k : n - length s.done ≡ 0 = omega arith in k) ∙ append-nil s.done in
-      ap (λ (l : List ℕ). Some (l ++ drop n (replicate most_numbers 0))) front
-      ∙ ap (λ (l : List ℕ). Some (s.done ++ l)) (drop-replicate n most_numbers 0)
-      ∙ ap (λ (k : ℕ). Some (s.done ++ replicate {A = ℕ} (most_numbers - k) 0)) (sym full)
-      ∙ ap (λ (l : List ℕ). Some (padded most_numbers 0 l)) whole
-      ∙ a_record word line n (sym s.test ∙ rw (none, e))
+      let whole : numbers ≡ numbers_in line =
+      sym (take_all i numbers (omega (arith, s.room))) ∙ sym (append-nil (take i numbers))
+      ∙ ap (λ (l : List (List ℕ)). take i numbers ++ map value_of l) (sym e) ∙ s.values in
+      ap (λ (l : List ℕ). Some l) whole ∙ a_record word line n (sym s.test ∙ rw (none, e))
 
   module _ (h : i < n) (field : List ℕ) (on : List (List ℕ)) (e : rest ≡ field ∷ on) where
     one_more : are_numbers (n - i) rest ≡ both (is_number 10 largest field) (are_numbers (n - (i + 1)) on)
@@ -207,19 +198,15 @@ module _ (word line : List ℕ) (n : ℕ) (rest : List (List ℕ)) (numbers : Li
     pub walk_on : (value : ℕ) → number_of 10 largest field ≡ Some value → Walked word line n on (set numbers i value) (i + 1)
     walk_on value g =
         let good = good_number 10 largest value field g in
-        let room : length s.done < n = omega (arith, s.count) in
         record {
           within = omega arith;
-          done = s.done ++ (value ∷ []);
-          count = omega (arith, length-append s.done (value ∷ []), s.count);
-          array =
-              ap (λ (x : List ℕ). set x i value) s.array ∙ ap (λ (m : ℕ). set (padded n 0 s.done) m value) (sym s.count)
-              ∙ padded_push n 0 s.done value room;
+          room = length-set numbers i value ∙ s.room;
           test = sym (one_more ∙ rw good.0) ∙ s.test;
           values =
-              append_assoc s.done (value ∷ []) (map value_of on)
-              ∙ ap (λ (v : ℕ). s.done ++ (v ∷ map value_of on)) (sym good.1)
-              ∙ ap (λ (x : List (List ℕ)). s.done ++ map value_of x) (sym e)
+              ap (λ (l : List ℕ). l ++ map value_of on) (take_more_set numbers i value (omega (arith, s.room)))
+              ∙ append_assoc (take i numbers) (value ∷ []) (map value_of on)
+              ∙ ap (λ (v : ℕ). take i numbers ++ (v ∷ map value_of on)) (sym good.1)
+              ∙ ap (λ (x : List (List ℕ)). take i numbers ++ map value_of x) (sym e)
               ∙ s.values;
         }
 
@@ -228,13 +215,13 @@ module _ (word line : List ℕ) (n : ℕ) (rest : List (List ℕ)) (numbers : Li
 -- no record fails the test
 pub record_none : (word line : List ℕ) (n : ℕ) → record_of word n line ≡ None → is_record word n line ≡ false
 unfolding record_of
-record_none word line n = chosen_none (is_record word n line) (padded most_numbers 0 (numbers_in line))
+record_none word line n = chosen_none (is_record word n line) (numbers_in line)
 
 -- a record passes it, and has the line's numbers
 pub record_some : (word line : List ℕ) (n : ℕ) (numbers : List ℕ) → record_of word n line ≡ Some numbers
-    → (is_record word n line ≡ true) × (padded most_numbers 0 (numbers_in line) ≡ numbers)
+    → (is_record word n line ≡ true) × (numbers_in line ≡ numbers)
 unfolding record_of
-record_some word line n numbers = chosen_some (is_record word n line) (padded most_numbers 0 (numbers_in line)) numbers
+record_some word line n numbers = chosen_some (is_record word n line) (numbers_in line) numbers
 
 -- ---- how many numbers a record has
 

@@ -2,8 +2,6 @@
 use Rattle.std.specs.Prelude.{Bool, true, false, ℕ, zero, suc, ◌+◌, eqb, ltb, length, get_or, drop, Option, Some, None}
 use mathlib.Core.List.{List, [], ◌∷◌, map, tail}
 use Rattle.basics.specs.Choose.{both, choose}
-use Rattle.basics.specs.Lists.{padded}
-use Rattle.model.specs.Flows.{per_flow}
 use Rattle.digits.specs.Numbers.{is_number, value_of}
 use Rattle.words.specs.Bytes.{tab, same_bytes}
 
@@ -49,10 +47,6 @@ is_record word n line = both (same_bytes (get_or (fields_of line) 0 []) word) (a
 unfoldable pub numbers_in : List ℕ → List ℕ
 numbers_in line = map value_of (tail (fields_of line))
 
--- the most numbers of a record: no line has more than a flow line
-abbrev pub most_numbers : ℕ
-most_numbers = per_flow
-
--- the numbers of a line that is the record of a word and so many numbers, filled up with zeros
+-- the numbers of a line that is the record of a word and so many numbers
 unfoldable pub record_of : List ℕ → ℕ → List ℕ → Option (List ℕ)
-record_of word n line = choose (is_record word n line) (Some (padded most_numbers 0 (numbers_in line))) None
+record_of word n line = choose (is_record word n line) (Some (numbers_in line)) None

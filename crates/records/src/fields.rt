@@ -1,16 +1,13 @@
 // A line taken apart: its word, and the numbers behind it.
 ghost use Rattle.std.specs.Prelude.{◌≡◌, ◌≤◌, length};
-ghost use Rattle.records.specs.Records.{place_from, most_numbers, record_of};
+ghost use Rattle.std.specs.Option.{option_map};
+ghost use Rattle.records.specs.Records.{place_from, record_of};
 
 use digits::read_number;
-use model::PER_FLOW;
 use words::TAB;
 
 // The largest number that a field may hold.
 pub const LARGEST: u64 = 4_294_967_295;
-
-// The most numbers of a record: no line has more than a flow line.
-pub const MOST_NUMBERS: usize = PER_FLOW;
 
 // The place of the first such byte from a place on.
 pub fn find(text: &[u8], byte: u8, from: usize) -> Option<usize>
@@ -21,21 +18,28 @@ pub fn find(text: &[u8], byte: u8, from: usize) -> Option<usize>
     Some(from + place)
 }
 
-// The numbers of a line that is the record of a word and n numbers; behind them stand zeros.
-pub fn read_record(line: &[u8], word: &[u8], n: usize) -> Option<[u32; MOST_NUMBERS]>
-    requires { n ≤ most_numbers }
-    ensures { result ≡ record_of word.now n line.now }
+// Reads the numbers of a line that is the record of a word and as many numbers as there is room for; nothing is said of the room else.
+fn read_into(line: &[u8], word: &[u8], numbers: &mut [u32]) -> Option<()>
+    ensures { option_map (λ _. numbers.new) result ≡ record_of word.now (length numbers.old) line.now }
 {
     let mut fields = line.split(|byte| *byte == TAB);
     if fields.next()? != word {
         return None;
     }
-    let mut numbers = [0u32; MOST_NUMBERS];
-    for number in &mut numbers[..n] {
+    for number in numbers {
         *number = read_number(fields.next()?, 10, LARGEST)? as u32;
     }
     match fields.next() {
-        None => Some(numbers),
+        None => Some(()),
         Some(_) => None,
     }
+}
+
+// The numbers of a line that is the record of a word and N numbers.
+pub fn read_record<const N: usize>(line: &[u8], word: &[u8]) -> Option<[u32; N]>
+    ensures { result ≡ record_of word.now N line.now }
+{
+    let mut numbers = [0; N];
+    read_into(line, word, &mut numbers)?;
+    Some(numbers)
 }

@@ -3,4 +3,4 @@
 
 mod fields;
 
-pub use fields::{LARGEST, MOST_NUMBERS, find, read_record};
+pub use fields::{LARGEST, find, read_record};

@@ -5,7 +5,7 @@ use Rattle.lines.proofs.FlowLines.{Flowing}
 use Rattle.lines.proofs.flows.read_flows.Given as goal
 
 abbrev pub invariant-loop-at : goal.invariant-loop-at
-invariant-loop-at l = Flowing l.text l.from l.at l.lines.count l.lines.numbers
+invariant-loop-at l = Flowing l.text l.from l.at l.lines
 
 abbrev pub decreases-loop-at : goal.decreases-loop-at
 decreases-loop-at l = length l.text - l.at
