@@ -7,7 +7,7 @@ ghost use Rattle.model.specs.declared.flows.Mesh.{Mesh};
 ghost use Rattle.arrays.specs.Arrays.{Packable, no_flows, flows_up_to, flow_numbers, arrays_of, with_one, with_flow, model_of};
 
 use load::{FlowEntry, PacketEntry};
-use model::{Mesh, PER_FLOW, flow_of, hyper_in, occupancy_of};
+use model::{Mesh, flow_of, flows_in, hyper_in, occupancy_of};
 use routes::{Path, route};
 
 // The flows: the first count of all; what follows them is 0.
@@ -102,8 +102,7 @@ fn flows_of(mesh: Mesh, numbers: &[u32]) -> Flows
     ensures { result ≡ flows_up_to mesh numbers.now (flows_in numbers.now) }
 {
     let mut flows = Flows::none();
-    let n = numbers.len() / PER_FLOW;
-    for f in 0..n {
+    for f in 0..flows_in(numbers) {
         let flow = flow_of(numbers, f);
         let held = occupancy_of(mesh, numbers, f);
         let path = route(
@@ -127,8 +126,7 @@ fn packets_of(numbers: &[u32], hyper: u32) -> Packets
     ensures { (mesh : Mesh) → result ≡ arrays_of (packets_of mesh numbers.now) }
 {
     let mut packets = Packets::none();
-    let n = numbers.len() / PER_FLOW;
-    for f in 0..n {
+    for f in 0..flows_in(numbers) {
         let period = flow_of(numbers, f).period;
         for k in 0..hyper / period {
             packets.push(PacketEntry {

@@ -10,8 +10,12 @@ use Rattle.model.proofs.answers.Refusal.place.Reads as place_reads
 use Rattle.model.proofs.answers.Refusal.place.Kinds as place_kinds
 use Rattle.model.proofs.answers.Refusal.other.Reads as other_reads
 use Rattle.model.proofs.answers.Refusal.other.Kinds as other_kinds
+use Rattle.model.proofs.answers.AnswerFromRefusal.from.Reads as from_reads
+use Rattle.model.proofs.answers.AnswerFromRefusal.from.Kinds as from_kinds
 use Rattle.model.proofs.answers.refused.Reads as refused
 use Rattle.model.proofs.answers.refused.Kinds as refused_kinds
+use Rattle.model.proofs.flows.flows_in.Reads as flows_in_reads
+use Rattle.model.proofs.flows.flows_in.Kinds as flows_in_kinds
 use Rattle.model.proofs.flows.number_of.Reads as number_of_lem
 use Rattle.model.proofs.flows.number_of.Kinds as number_of_kinds
 use Rattle.model.proofs.flows.flow_of.Reads as flow_of_reads
@@ -35,9 +39,17 @@ refusal_place_determined κs a x y s t p q = p ∙ sym q
 pub refusal_other_determined : Determined 0 other_kinds.ps other_kinds.r other_reads.Post
 refusal_other_determined κs a x y s t p q = p ∙ sym q
 
--- the answer of a refusal
+-- the answer of a refusal, by its conversion
+pub from_determined : Determined 0 from_kinds.ps from_kinds.r from_reads.Post
+from_determined κs a x y s t p q = p ∙ sym q
+
+-- the same, by name
 pub refused_determined : Determined 0 refused_kinds.ps refused_kinds.r refused.Post
 refused_determined κs a x y s t p q = p ∙ sym q
+
+-- how many flows there are
+pub flows_in_determined : Determined 1 flows_in_kinds.ps flows_in_kinds.r flows_in_reads.Post
+flows_in_determined κs a x y s t p q = p ∙ sym q
 
 -- a number of a flow
 pub number_of_determined : Determined 1 number_of_kinds.ps number_of_kinds.r number_of_lem.Post
@@ -51,7 +63,7 @@ flow_of_determined κs a x y s t p q = p ∙ sym q
 pub occupancy_of_determined : Determined 1 occupancy_of_kinds.ps occupancy_of_kinds.r occupancy_of_reads.Post
 occupancy_of_determined κs a x y s t p q = ap {B = Cycles} (λ (n : ℕ). record { 0 = n }) (p ∙ sym q)
 
--- the hyper-period, or that it is above the limit
+-- the hyper-period, or none above the limit
 pub hyper_in_determined : Determined 1 hyper_in_kinds.ps hyper_in_kinds.r hyper_in_reads.Post
 hyper_in_determined κs a x y s t p q = p ∙ sym q
 

@@ -32,6 +32,8 @@ pub enum Refusal {
 }
 
 // An answer: a field that its number does not name is 0.
+// Kept: a number and 0, since document 01 names the eight fields, and `complete_search`, `ended_search`, `refused_writes_nothing` and
+// `passed_is_each_replay` speak of the number.
 #[derive(Clone, Copy, PartialEq, Eq, Debug, Default)]
 pub struct Answer {
     pub number: u32,

@@ -1,6 +1,6 @@
 // Mesh numbers, and flows as one list of numbers, so many to a flow.
 ghost use Rattle.std.specs.Prelude.{◌≡◌, ◌+◌, ◌*◌, ◌<◌, ◌≤◌, length};
-ghost use Rattle.model.specs.Flows.{per_flow, number_of, flow_of, occupancy_in};
+ghost use Rattle.model.specs.Flows.{per_flow, number_of, flow_of, flows_in, occupancy_in};
 ghost use Rattle.model.specs.Fair.{Sized};
 
 use time::{Bytes, Cycles, flits_of, occupancy};
@@ -25,6 +25,14 @@ pub struct Flow {
     pub period: u32,
     pub size: u32,
     pub due: u32,
+}
+
+// How many flows the list holds.
+#[tactic(auto, unfolding(crate::specs::Flows::flows_in))]
+pub fn flows_in(numbers: &[u32]) -> usize
+    ensures { result ≡ flows_in numbers.now }
+{
+    numbers.len() / PER_FLOW
 }
 
 // Number i of flow f: source, target, period, size, deadline.

@@ -6,5 +6,5 @@ mod flows;
 mod sums;
 
 pub use answers::{Answer, Refusal, refused};
-pub use flows::{Flow, Mesh, PER_FLOW, flow_of, number_of, occupancy_of};
+pub use flows::{Flow, Mesh, PER_FLOW, flow_of, flows_in, number_of, occupancy_of};
 pub use sums::{hyper_in, packets_in};

@@ -51,14 +51,3 @@ module _ (flows : Flows) (packets : Packets) (table : List ℕ) where
           let same : record { a = a; b = first (meets_in flows packets table a) packets.count } ≡ p = cc in
           let met = some_first (meets_in flows packets table a) packets.count (ap (higher_in flows packets table) (sym own.1) ∙ first_passes (higher_in flows packets table) packets.count (omega (arith, own.0, own.1))) in
           rw (← same) (own.0, met, own.1, refl)
-
-  -- where no pair is given no packet meets a higher one
-  pub pair_not : first_pair flows packets table ≡ None → (k : ℕ) → k < packets.count → higher_in flows packets table k ≡ false
-  unfolding first_pair
-  pair_not e = go (found (higher_in flows packets table) packets.count) refl e
-    where
-      go : (o : Option ℕ) → found (higher_in flows packets table) packets.count ≡ o
-          → option_map {U = Pair} (λ x. record { a = x; b = first (meets_in flows packets table x) packets.count }) o ≡ None
-          → (k : ℕ) → k < packets.count → higher_in flows packets table k ≡ false
-      go None f g = found_not (higher_in flows packets table) packets.count f
-      go (Some a) f g = let z : ◌≡◌ {A = ℕ} 0 1 = cc in absurd (omega arith)

@@ -3,7 +3,7 @@ ghost use Rattle.std.specs.Prelude.{◌≡◌, ◌<◌};
 ghost use Rattle.basics.specs.First.{found};
 ghost use Rattle.packet.specs.Table.{time_at};
 ghost use Rattle.arrays.specs.Arrays.{packet_in};
-ghost use Rattle.pairs.specs.Scan.{meets_in, first_pair, Timely};
+ghost use Rattle.pairs.specs.Scan.{first_pair, Timely, meets_for, TimelyOf};
 
 use arrays::{Flows, Packets};
 use routes::share;
@@ -16,37 +16,44 @@ pub struct Pair {
     pub b: usize,
 }
 
-// The cycles in which packet p is held.
-fn window_of(flows: &Flows, packets: &Packets, table: &[u32], p: usize) -> Window
-    requires { Timely flows.now packets.now table.now × (p < packets.now.count) }
-    ensures start { result.start.0 ≡ time_at table.now p }
-    ensures span { result.span.0 ≡ (packet_in flows.now packets.now p).occupancy }
-{
-    Window {
-        start: Cycles(table[p]),
-        span: Cycles(packets.all[p].flow_among(&flows.all).occupancy),
+// What the walk reads: the flows and packets of a model, and a table offered for them.
+#[derive(Clone, Copy)]
+struct Walk<'a> {
+    flows: &'a Flows,
+    packets: &'a Packets,
+    table: &'a [u32],
+}
+
+impl Walk<'_> {
+    // The cycles in which packet p is held.
+    fn window_of(self, p: usize) -> Window
+        requires { TimelyOf self × (p < self.packets.now.count) }
+        ensures start { result.start.0 ≡ time_at self.entry.table.now p }
+        ensures span { result.span.0 ≡ (packet_in self.entry.flows.now self.entry.packets.now p).occupancy }
+    {
+        Window {
+            start: Cycles(self.table[p]),
+            span: Cycles(self.packets.all[p].flow_among(&self.flows.all).occupancy),
+        }
     }
-}
 
-// Whether packet a collides with the higher-numbered packet b. Windows are compared before links.
-fn meets(flows: &Flows, packets: &Packets, table: &[u32], a: usize, b: usize) -> bool
-    requires { Timely flows.now packets.now table.now × (a < b) × (b < packets.now.count) }
-    ensures { result ≡ meets_in flows.now packets.now table.now a b }
-{
-    let f = packets.all[a].flow_among(&flows.all);
-    let g = packets.all[b].flow_among(&flows.all);
-    overlap(
-        window_of(flows, packets, table, a),
-        window_of(flows, packets, table, b),
-    ) && share(f.path, g.path)
-}
+    // Whether packet a collides with the higher-numbered packet b. Windows are compared before links.
+    fn meets(self, a: usize, b: usize) -> bool
+        requires { TimelyOf self × (a < b) × (b < self.packets.now.count) }
+        ensures { result ≡ meets_for self.entry a b }
+    {
+        let f = self.packets.all[a].flow_among(&self.flows.all);
+        let g = self.packets.all[b].flow_among(&self.flows.all);
+        overlap(self.window_of(a), self.window_of(b)) && share(f.path, g.path)
+    }
 
-// The lowest packet above a that a collides with, or none.
-fn next_meeting(flows: &Flows, packets: &Packets, table: &[u32], a: usize) -> Option<usize>
-    requires { Timely flows.now packets.now table.now × (a < packets.now.count) }
-    ensures { result ≡ found (meets_in flows.now packets.now table.now a) packets.now.count }
-{
-    (a + 1..packets.count).find(|&b| meets(flows, packets, table, a, b))
+    // The lowest packet above a that a collides with, or none.
+    fn next_meeting(self, a: usize) -> Option<usize>
+        requires { TimelyOf self × (a < self.packets.now.count) }
+        ensures { result ≡ found (meets_for self.entry a) self.entry.packets.now.count }
+    {
+        (a + 1..self.packets.count).find(|&b| self.meets(a, b))
+    }
 }
 
 // The lowest packet that collides with a higher-numbered one, and the lowest such, or none.
@@ -54,8 +61,14 @@ pub fn first_meeting(flows: Flows, packets: Packets, table: &[u32]) -> Option<Pa
     requires { Timely flows packets table.now }
     ensures { result ≡ first_pair flows packets table.now }
 {
+    let walk = Walk {
+        flows: &flows,
+        packets: &packets,
+        table,
+    };
+    // Kept: `find_map` was tried; no lemma of std gives its answer over a range.
     for a in 0..packets.count {
-        if let Some(b) = next_meeting(&flows, &packets, table, a) {
+        if let Some(b) = walk.next_meeting(a) {
             return Some(Pair { a, b });
         }
     }

@@ -4,7 +4,7 @@ ghost use Rattle.refusals.specs.Refusals.{flow_refusal, flows_refusal, sums_refu
 ghost use Rattle.model.specs.Fair.{FairMesh, FairList, Listed, Timed};
 
 use limits::{bad_list, bad_mesh, bad_nodes, bad_times, too_long};
-use model::{Mesh, PER_FLOW, Refusal, hyper_in, packets_in};
+use model::{Mesh, Refusal, flows_in, hyper_in, packets_in};
 
 // The tests of one flow, in order.
 #[tactic(auto, using(crate::proofs::Accepted::sized_past), unfolding(crate::specs::Refusals::flow_refusal, crate::specs::Refusals::refuse_if))]
@@ -31,9 +31,8 @@ fn refuse_flows(mesh: Mesh, numbers: &[u32]) -> Result<(), Refusal>
     requires { FairMesh mesh × FairList numbers.now }
     ensures { result ≡ flows_refusal mesh numbers.now }
 {
-    let n = numbers.len() / PER_FLOW;
-    // Kept: f is the flow's number, which a refusal names; no list is walked by it.
-    for f in 0..n {
+    // Kept: f is the flow's number, which the tests and the refusal's place want.
+    for f in 0..flows_in(numbers) {
         refuse_flow(mesh, numbers, f)?;
     }
     Ok(())
@@ -53,6 +52,9 @@ fn refuse_sums(numbers: &[u32]) -> Result<(), Refusal>
 }
 
 // The order of the tests: 2; what the caller tests between 2 and 4; 4; then flow by flow 5, 6, 7; then 8, 9.
+// Kept: between is a value, since `refusal` (docs/PROMISES.md) takes what its caller tests.
+// Kept: mesh and numbers stand apart, since `check` and `search` (docs/PROMISES.md) take them so; bad_mesh takes the one and eight
+// functions the other alone.
 #[tactic(auto, unfolding(crate::specs::Refusals::refusal_of, crate::specs::Refusals::refuse_if), using(limits::proofs::Past::mesh_fair, limits::proofs::Past::list_fair, crate::proofs::Accepted::timed_past))]
 pub fn refusal(mesh: Mesh, between: Result<(), Refusal>, numbers: &[u32]) -> Result<(), Refusal>
     ensures { result ≡ refusal_of mesh between numbers.now }

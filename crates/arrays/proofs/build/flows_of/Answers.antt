@@ -14,7 +14,7 @@ loop-f-init c = listing_none _ _ _ c.none-flows.ensures
 
 pub occupancy_of-held-requires : goal.occupancy_of-held-requires
 unfolding flows_in
-occupancy_of-held-requires c = fair_sized c.args.mesh c.args.numbers.now c.loop-f.f c.requires c.loop-f-test.true
+occupancy_of-held-requires c = fair_sized c.args.mesh c.args.numbers.now c.loop-f.f c.requires (rw c.flows_in-f-end.ensures at c.loop-f-test.true)
 
 pub route-path-requires : goal.route-path-requires
 unfolding flows_in flow_of
@@ -24,13 +24,13 @@ route-path-requires c =
     let f = c.loop-f.f in
     let fair = c.requires in
     rw c.flow_of-flow.ensures
-    (ends_of mesh numbers f fair.fair_mesh (fair.flows f c.loop-f-test.true).nodes)
+    (ends_of mesh numbers f fair.fair_mesh (fair.flows f (rw c.flows_in-f-end.ensures at c.loop-f-test.true)).nodes)
 
 pub push-requires : goal.push-requires
 unfolding flows_in flows_up_to
 push-requires c =
     let count : c.loop-f.flows.count ≡ c.loop-f.f = ap (λ (x : Flows). x.count) c.loop-f.invariant.its_flows in
-    omega (arith, c.loop-f-test.true, c.requires.list.flows_high)
+    omega (arith, c.loop-f-test.true, c.flows_in-f-end.ensures, c.requires.list.flows_high)
 
 pub loop-f-preserved : goal.loop-f-preserved
 unfolding flows_in
@@ -38,7 +38,7 @@ loop-f-preserved c =
     let mesh = c.args.mesh in
     let numbers = c.args.numbers.now in
     let f = c.loop-f.f in
-    let below = c.loop-f-test.true in
+    let below = rw c.flows_in-f-end.ensures at c.loop-f-test.true in
     record {
       its_flows =
           c.push.ensures
@@ -49,4 +49,4 @@ loop-f-preserved c =
 
 pub returns : goal.returns
 unfolding flows_in
-returns c = listing_all c.args.mesh c.args.numbers.now c.loop-f.flows c.loop-f.f c.loop-f.invariant c.loop-f-test.false
+returns c = listing_all c.args.mesh c.args.numbers.now c.loop-f.flows c.loop-f.f c.loop-f.invariant (rw c.flows_in-f-end.ensures at c.loop-f-test.false)

@@ -1,4 +1,4 @@
--- `packets_in` adds up the turns of one flow after the other (`Counted`); 64 flows of at most 16,777,216 packets stay in 32 bits.
+-- `packets_in` adds up the turns of one flow after the other; 64 flows of at most 16,777,216 packets stay in 32 bits.
 use mathlib.Core.Path.{◌≡◌}
 use Rattle.basics.specs.Sums.{sum_of}
 use Rattle.model.specs.Packets.{turns_in}

@@ -18,5 +18,7 @@ loop-f-preserved c = record {
 
 pub returns : goal.returns
 unfolding flows_in periods_of
-returns c = padded_front 64 0 (period_of c.args.numbers.now) _ 0 c.loop-f.period-items c.loop-f.invariant.size
-    (λ k h. c.loop-f.invariant.front k (omega (arith, c.loop-f-test.false, c.loop-f.invariant.size)))
+returns c =
+    rw c.flows_in-n.ensures
+    (padded_front 64 0 (period_of c.args.numbers.now) _ 0 c.loop-f.period-items c.loop-f.invariant.size
+    (λ k h. c.loop-f.invariant.front k (omega (arith, c.loop-f-test.false, c.loop-f.invariant.size))))

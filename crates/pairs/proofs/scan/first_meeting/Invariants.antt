@@ -6,4 +6,4 @@ use Rattle.pairs.specs.Scan.{higher_in}
 use Rattle.pairs.proofs.scan.first_meeting.Given as goal
 
 abbrev pub invariant-loop-a : goal.invariant-loop-a
-invariant-loop-a l = (k : ℕ) → k < l.a → higher_in l.flows l.packets l.table k ≡ false
+invariant-loop-a l = (k : ℕ) → k < l.a → higher_in l.fn.flows l.fn.packets l.table k ≡ false

@@ -3,7 +3,7 @@ use mathlib.Core.Path.{refl, ap}
 use Rattle.packet.specs.Table.{time_at}
 use Rattle.load.specs.declared.entries.FlowEntry.{FlowEntry}
 use Rattle.arrays.specs.Arrays.{packet_in}
-use Rattle.pairs.proofs.scan.window_of.Goals as goal
+use Rattle.pairs.proofs.scan.Walk.window_of.Goals as goal
 
 pub returns-clause-start : goal.returns-clause-start
 unfolding time_at
