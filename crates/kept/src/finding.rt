@@ -3,7 +3,7 @@ ghost use Rattle.std.specs.Prelude.{◌≡◌};
 ghost use Rattle.kept.specs.Kept.{spot_of, Kept};
 
 // The packets placed in a pass: the time of each, and their numbers in order of start, which are the first count of by.
-// Kept: the list has its length beside it, in fixed memory; whoever reads it takes the slice.
+// Kept: the list is an array of 1,024, as `put_in` (docs/PROMISES.md) takes one; `Kept` is no ghost field, as `settle` may ask no more.
 #[derive(Clone, Copy)]
 pub struct Taken {
     pub times: [u32; 1024],

@@ -17,12 +17,11 @@ pub struct Traffic {
 
 impl Traffic {
     // The links of a flow's path.
-    #[tactic(auto, unfolding(crate::specs::Load::path_in, routes::specs::Route::links_of))]
+    #[tactic(auto, unfolding(crate::specs::Load::path_in))]
     pub fn path(&self, g: usize) -> &[u16]
         requires { (g < 64) × Paths self.now.flows }
         ensures { result.now ≡ path_for self.now g }
     {
-        let path = &self.flows[g].path;
-        &path.links[..path.len]
+        self.flows[g].path.listed()
     }
 }

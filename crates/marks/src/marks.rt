@@ -7,7 +7,7 @@ use mesh::ALL_LINKS;
 
 // Marks the links of a flow's path.
 pub fn stamp(marks: &mut [Option<u8>; ALL_LINKS], path: &[u16], own: usize)
-    requires { ((a : ℕ) → a < length path.now → get_or path.now a 0 < all_links) × (own < 64) × (length marks.old ≡ all_links) }
+    requires { ((a : ℕ) → a < length path.now → get_or path.now a 0 < all_links) × (own < 64) }
     ensures { marks.new ≡ stamped path.now own (length path.now) marks.old }
 {
     let mark = Some(own as u8);

@@ -10,7 +10,7 @@ use lib.ListN.{length, get_or, take, drop, take-append-drop, length-append}
 use lib.Seq.{slice, slice-cons, length-slice, take-suc, take-take, drop_at, drop-append-le, drop-drop, take-append-add, length-take-le}
 use Rattle.order.specs.Lists.{shifted}
 use Rattle.order.specs.Order.{occurs}
-use Rattle.order.proofs.Shifting.{slice_take, shifted_front, shifted_before, shifted_at, shifted_moved, shifted_after}
+use Rattle.order.proofs.Shifting.{slice_take, front, middle, shifted_front, shifted_before, shifted_at, shifted_moved, shifted_after}
 use Rattle.order.proofs.Ordering.{occurs_append}
 
 module _ (o : List ℕ) (base at n : ℕ) (low : base ≤ at) (more : at < n) (long : n ≤ length o) where
@@ -32,17 +32,11 @@ module _ (o : List ℕ) (base at n : ℕ) (low : base ≤ at) (more : at < n) (l
       ∙ drop-append-le base (take at o) (slice at n o) (omega (arith, length-take-le at o (omega arith)))
       ∙ ap (λ (xs : List ℕ). slice base at o ++ xs) rest_next
 
-  front : length (take base o) ≡ base
-  front = length-take-le base o (omega arith)
-
-  middle : length (slice base at o) ≡ at - base
-  middle = length-slice base at o (omega arith)
-
   -- the first n with the next packet moved to the front
   moved : take n (shifted o base at (get_or o at 0)) ≡ take base o ++ (get_or o at 0 ∷ (slice base at o ++ slice (at + 1) n o))
   unfolding shifted
   moved =
-      let e : n ≡ length (take base o) + suc (length (slice base at o) + (n - suc at)) = omega (arith, front, middle) in
+      let e : n ≡ length (take base o) + suc (length (slice base at o) + (n - suc at)) = omega (arith, front o base at low (omega arith), middle o base at low (omega arith)) in
       ap (λ (k : ℕ). take k (take base o ++ (get_or o at 0 ∷ (slice base at o ++ drop (suc at) o)))) e
       ∙ take-append-add (take base o) (get_or o at 0 ∷ (slice base at o ++ drop (suc at) o)) (suc (length (slice base at o) + (n - suc at)))
       ∙ ap (λ (xs : List ℕ). take base o ++ (get_or o at 0 ∷ xs))
@@ -51,7 +45,7 @@ module _ (o : List ℕ) (base at n : ℕ) (low : base ≤ at) (more : at < n) (l
 
   -- the list then begins with it
   pub list_moved : slice base n (shifted o base at (get_or o at 0)) ≡ get_or o at 0 ∷ (slice base at o ++ slice (at + 1) n o)
-  list_moved = ap (drop base) moved ∙ drop_at (take base o) (get_or o at 0 ∷ (slice base at o ++ slice (at + 1) n o)) base front
+  list_moved = ap (drop base) moved ∙ drop_at (take base o) (get_or o at 0 ∷ (slice base at o ++ slice (at + 1) n o)) base (front o base at low (omega arith))
 
   -- without it the others keep their order
   pub list_without : slice (base + 1) n (shifted o base at (get_or o at 0)) ≡ slice base at o ++ slice (at + 1) n o
@@ -64,14 +58,14 @@ module _ (o : List ℕ) (base at n : ℕ) (low : base ≤ at) (more : at < n) (l
       (shifted_front o base at (get_or o at 0) low (omega arith)
       ∙ sym (append_assoc (take base (take at o)) (get_or o at 0 ∷ []) (drop base (take at o))))
       ∙ drop_at (take base (take at o) ++ (get_or o at 0 ∷ [])) (drop base (take at o)) (base + 1)
-      (omega (arith, length-append (take base (take at o)) (get_or o at 0 ∷ []), ap length (take-take base at o low), front))
+      (omega (arith, length-append (take base (take at o)) (get_or o at 0 ∷ []), ap length (take-take base at o low), front o base at low (omega arith)))
 
   -- those still to be taken do not change
   pub rest_moved : slice (at + 1) n (shifted o base at (get_or o at 0)) ≡ slice (at + 1) n o
   rest_moved =
       ap (drop (at + 1)) (moved ∙ sym (append_assoc (take base o) (get_or o at 0 ∷ slice base at o) (slice (at + 1) n o)))
       ∙ drop_at (take base o ++ (get_or o at 0 ∷ slice base at o)) (slice (at + 1) n o) (at + 1)
-      (omega (arith, length-append (take base o) (get_or o at 0 ∷ slice base at o), front, middle))
+      (omega (arith, length-append (take base o) (get_or o at 0 ∷ slice base at o), front o base at low (omega arith), middle o base at low (omega arith)))
 
   -- how often a number stands in the list: as often as in those taken, the next and those behind it
   pub list_occurs : (q : ℕ) → occurs q (slice base n o) ≡ occurs q (slice base at o) + occurs q (get_or o at 0 ∷ slice (at + 1) n o)

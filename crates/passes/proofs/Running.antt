@@ -91,11 +91,7 @@ module _ {t : Traffic} {f g : ℕ} {start : State} {marks : List (Option ℕ)} {
     pub more : s.at < length (packets_held t)
     more = omega (arith, packets_count t)
 
-    -- it stands among the first 1,024
-    pub at_small : s.at < 1024
-    at_small = omega (arith, more, (held_in t run.ready.few).few)
-
-    -- and is one of so many
+    -- it is one of 1,024
     pub next_small : next_of s < 1024
     next_small = omega (arith, next_in_lem run.ready run.going more, (held_in t run.ready.few).few)
 

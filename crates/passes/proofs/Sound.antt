@@ -63,17 +63,17 @@ safe_start ps n = record {
   apart = λ a b h k ne e d. absurd (false≢true (sym (nothing_placed n a) ∙ e));
 }
 
+-- the time of another packet does not change
+pub time_other : (table : List ℕ) (p t q : ℕ) → (q ≡ p → ⊥) → time_at (set table p t) q ≡ time_at table q
+unfolding time_at
+time_other table p t q ne = get_or-set_other table p q t 0 ne
+
 module _ (ps : List Packet) (f : ℕ) (fitting : Fitting ps) (table : List ℕ) (p t m : ℕ) (e : placing_of ps f table p ≡ At t m)
     (packet : p < length ps) (long : length table ≡ length ps) (safe : Safe ps table) where
   -- the time of the packet
   time_new : time_at (set table p t) p ≡ t
   unfolding time_at
   time_new = get_or-set_same table p t 0 (omega arith)
-
-  -- the times of the others
-  time_other : (q : ℕ) → (q ≡ p → ⊥) → time_at (set table p t) q ≡ time_at table q
-  unfolding time_at
-  time_other q ne = get_or-set_other table p q t 0 ne
 
   -- the packet is in its range
   new_ranged : may_start (packet_at ps p) t ≡ true
@@ -102,7 +102,7 @@ module _ (ps : List Packet) (f : ℕ) (fitting : Fitting ps) (table : List ℕ) 
       ranges q h d =
           elim (ℕ_discrete q p) [
             | yes a ↦ rw (a, time_new) new_ranged
-            | no a ↦ rw (time_other q a) (safe.ranged q h (was q a d))
+            | no a ↦ rw (time_other table p t q a) (safe.ranged q h (was q a d))
           ]
 
       parts : (a b : ℕ) → a < length ps → b < length ps → (a ≡ b → ⊥) → placed (set table p t) a ≡ true → placed (set table p t) b ≡ true
@@ -111,10 +111,10 @@ module _ (ps : List Packet) (f : ℕ) (fitting : Fitting ps) (table : List ℕ) 
           elim (ℕ_discrete a p) [
             | yes x ↦
                 let y : b ≡ p → ⊥ = λ z. ne (x ∙ sym z) in
-                rw (x, time_new, time_other b y) (new_apart b k (was b y c))
+                rw (x, time_new, time_other table p t b y) (new_apart b k (was b y c))
             | no x ↦ elim (ℕ_discrete b p) [
               | yes y ↦
-                  rw (y, time_new, time_other a x) (collide_swap (packet_at ps a) (time_at table a) (packet_at ps p) t ∙ new_apart a h (was a x d))
-              | no y ↦ rw (time_other a x, time_other b y) (safe.apart a b h k ne (was a x d) (was b y c))
+                  rw (y, time_new, time_other table p t a x) (collide_swap (packet_at ps a) (time_at table a) (packet_at ps p) t ∙ new_apart a h (was a x d))
+              | no y ↦ rw (time_other table p t a x, time_other table p t b y) (safe.apart a b h k ne (was a x d) (was b y c))
             ]
           ]

@@ -15,21 +15,16 @@ use Rattle.packet.proofs.Placed.{placed_other}
 use Rattle.placing.specs.Placing.{in_the_way, free, taken_of, placing_of}
 use Rattle.gaps.specs.declared.gap.Placed.TheVariants.{At}
 use Rattle.passes.specs.Stand.{Tight}
-use Rattle.passes.proofs.Sound.{taken_first}
+use Rattle.passes.proofs.Sound.{taken_first, time_other}
 
 module _ (ps : List Packet) (f : ℕ) (table : List ℕ) (p t : ℕ) (packet : p < length table) (fresh : placed table p ≡ false) where
-  -- the time of another does not change
-  time_other : (q : ℕ) → (q ≡ p → ⊥) → time_at (set table p t) q ≡ time_at table q
-  unfolding time_at
-  time_other q ne = get_or-set_other table p q t 0 ne
-
   -- what was in the way is in the way still
   ways_more : (q s r : ℕ) → in_the_way ps table q s r ≡ true → in_the_way ps (set table p t) q s r ≡ true
   unfolding in_the_way
   ways_more q s r e =
       let ne : r ≡ p → ⊥ = λ z. false≢true (sym fresh ∙ ap (placed table) (sym z) ∙ both_first _ _ e) in
       both_pass _ _ (placed_other table p t r ne ∙ both_first _ _ e)
-      (ap (λ (u : ℕ). collide (packet_at ps q) s (packet_at ps r) u) (time_other r ne) ∙ both_second (placed table r) _ e)
+      (ap (λ (u : ℕ). collide (packet_at ps q) s (packet_at ps r) u) (time_other table p t r ne) ∙ both_second (placed table r) _ e)
 
   -- so a time that was not free is not free
   free_less : (q s : ℕ) → free ps table q s ≡ false → free ps (set table p t) q s ≡ false
@@ -41,7 +36,7 @@ module _ (ps : List Packet) (f : ℕ) (table : List ℕ) (p t : ℕ) (packet : p
 
   -- another stands tight still
   pub tight_other : (q : ℕ) → (q ≡ p → ⊥) → Tight ps f table q → Tight ps f (set table p t) q
-  tight_other q ne s = record { i = s.i; grid = time_other q ne ∙ s.grid; taken = λ m h. free_less q _ (s.taken m h) }
+  tight_other q ne s = record { i = s.i; grid = time_other table p t q ne ∙ s.grid; taken = λ m h. free_less q _ (s.taken m h) }
 
   -- and the packet that takes its time does
   pub tight_new : (m : ℕ) → placing_of ps f table p ≡ At t m → Tight ps f (set table p t) p

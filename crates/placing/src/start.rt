@@ -23,6 +23,7 @@ fn not_over(taken: &Taken, time: u32, longest: u32) -> usize
 
 // Where packet p goes, in steps of the pruning factor from its release up to its latest start, and before which of the placed packets it
 // is put in. A gap is sought behind its twin, if it has one. The links of its path are marked.
+// Kept: traffic beside taken, and no struct of both: between two calls a pass lends taken to `settle` as `&mut`.
 pub fn place(
     traffic: &Traffic,
     taken: &Taken,

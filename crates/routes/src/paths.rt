@@ -8,7 +8,7 @@ ghost use Rattle.routes.specs.Growing.{pushed, walked, Walkable};
 use mesh::{Kind, Place, end_of, far, link_of, node_at, place_of};
 
 // The links of a path: the first len of the array; what follows them is 0.
-// Kept: the array beside its length, as document 01 names it; that len ≤ 32 stands in the contracts of `listed` and `share` alone.
+// Kept: the array beside its length, as document 01 names it; no ghost field, as `path_of`, `pushed` and `no_path` build it of two fields.
 #[derive(Clone, Copy, PartialEq, Eq)]
 pub struct Path {
     pub links: [u16; 32],

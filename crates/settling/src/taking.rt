@@ -10,6 +10,7 @@ use packet::NO_TIME;
 
 // The search's own state, carried over its passes: the list is the order from base on, and the skipped packets stand before it; and the
 // fail count of each packet.
+// Kept: document 01 names the order list and its fail counts as arrays of 1,024 in this state; so where the list begins stands beside it.
 #[derive(Clone, Copy)]
 pub struct State {
     pub order: [u16; 1024],
@@ -54,7 +55,7 @@ pub fn settle(taken: &mut Taken, spot: usize, packet: u16, time: u32)
 }
 
 // Nothing is placed: no packet has a time.
-// Kept: a place without a time holds 4,294,967,295, as the lent table does (document 01).
+// Kept: numbers and no Options of them, as `nothing_placed`, `placed_new`, `placed_other` (docs/PROMISES.md) are of tables of numbers.
 #[tactic(auto, unfolding(crate::specs::Settling::nothing_taken))]
 pub fn nothing_taken() -> Taken
     ensures { result ≡ nothing_taken }

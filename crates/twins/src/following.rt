@@ -36,6 +36,7 @@ fn twin_of(traffic: &Traffic, taken: &Taken, p: usize) -> Option<usize>
 
 // The time from which on a gap for packet p is sought, of its times from its release on. What was in the way of its twin is in its way
 // too, and then the twin itself is, up to its end.
+// Kept: traffic beside taken, and no struct of both: between two calls a pass lends taken to `settle` as `&mut`.
 pub fn resume(traffic: &Traffic, taken: &Taken, pruning: u32, p: usize) -> u32
     requires { Resume traffic.now taken.now pruning p }
     ensures { result ≡ resume_at traffic.now taken.now pruning p }

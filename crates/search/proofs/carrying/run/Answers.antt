@@ -10,7 +10,7 @@ pub slacks-key-requires : goal.slacks-key-requires
 slacks-key-requires c = c.requires.keyed
 
 pub by_flow-list-requires : goal.by_flow-list-requires
-by_flow-list-requires c = (rw c.slacks-key.ensures (slacks_long c.requires), rw c.flow_numbers.ensures c.requires.grouped)
+by_flow-list-requires c = rw c.flow_numbers.ensures c.requires.grouped
 
 pub rounds-requires : goal.rounds-requires
 rounds-requires c = record { ready = modelled_ready c.requires c.longest_of.ensures; listing = listing_sorted _ _ _ (search rules) c.by_flow-list.ensures }
