@@ -1,8 +1,10 @@
 -- Laws of tests: two at once, and one or the other, each made from and taken apart into the two; and when two tests agree, or one
--- cannot pass.
-use mathlib.Core.Path.{◌≡◌, refl, sym, ◌∙◌}
+-- cannot pass; then what a test chose, a value or none, and what `ok_or` puts in the place of none.
+use mathlib.Core.Path.{◌≡◌, refl, sym, ◌∙◌, ap}
 use mathlib.Core.Bool.{Bool, true, false, false≢true, true≢false}
-use Rattle.basics.specs.Choose.{both, either}
+use Rattle.std.specs.Prelude.{Option, Result, Some, None, Err}
+use Rattle.std.specs.Option.{ok_or}
+use Rattle.basics.specs.Choose.{both, either, choose}
 
 -- ---- `both`
 
@@ -61,3 +63,20 @@ pub same_test : (a b : Bool) → (a ≡ true → b ≡ true) → (b ≡ true →
 same_test true b f g = sym (f refl)
 same_test false true f g = g refl
 same_test false false f g = refl
+
+-- ---- what a test chose
+
+module _ {X : Type 0} where
+  -- none: the test did not pass
+  pub chosen_none : (t : Bool) (x : X) → choose t (Some x) None ≡ None → t ≡ false
+  chosen_none true x e = cc
+  chosen_none false x e = refl
+
+  -- a value: it passed, and the value is the one chosen
+  pub chosen_some : (t : Bool) (x y : X) → choose t (Some x) None ≡ Some y → (t ≡ true) × (x ≡ y)
+  chosen_some true x y e = (refl, cc)
+  chosen_some false x y e = cc
+
+-- the error that `ok_or` gives is the one that was named
+pub named_error : {X E : Type 0} (o : Option X) (named e : E) (r : Result X E) → o ≡ None → r ≡ ok_or o named → r ≡ Err e → named ≡ e
+named_error {X} {E} o named e r n f g = let h : ◌≡◌ {A = Result X E} (Err named) (Err e) = sym (f ∙ ap (λ (l : Option X). ok_or l named) n) ∙ g in cc

@@ -1,5 +1,4 @@
--- The laws of a choice between a value and none, of fields as numbers and of numbers printed; then that what is read is determined.
-pub mod Chosen
+-- The laws of fields as numbers and of numbers printed; then that what is read is determined.
 pub mod Decimals
 pub mod Determined
 pub mod Spelling

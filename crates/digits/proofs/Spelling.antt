@@ -14,8 +14,7 @@ use lib.Dec.{leb, eqb}
 use lib.ListN.{length, get_or, drop}
 use Rattle.std.proofs.lemmas.List.{at_drop_more, at_drop_all}
 use Rattle.basics.specs.Choose.{both, either, choose}
-use Rattle.basics.proofs.Choose.{both_first, both_second, both_not}
-use Rattle.digits.proofs.Chosen.{chosen_none, chosen_some}
+use Rattle.basics.proofs.Choose.{both_first, both_second, both_not, chosen_none, chosen_some}
 use Rattle.digits.specs.Numbers.{is_digit, all_digits, no_leading_zero, is_formed, value_from, value_of, is_number, number_of}
 
 -- ---- the digits

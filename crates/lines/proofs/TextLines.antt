@@ -11,8 +11,7 @@ use lib.ListN.{length, take, drop, length-drop}
 use lib.Seq.{drop-drop, take_all}
 use Rattle.std.specs.Prelude.{Some, None}
 use Rattle.basics.specs.Choose.{both}
-use Rattle.basics.proofs.Choose.{both_not, both_first, both_second}
-use Rattle.digits.proofs.Chosen.{chosen_none, chosen_some}
+use Rattle.basics.proofs.Choose.{both_not, both_first, both_second, chosen_none, chosen_some}
 use Rattle.words.specs.Bytes.{feed}
 use Rattle.records.specs.Records.{index_of, place_from, is_record, numbers_in, record_of}
 use Rattle.records.proofs.Places.{place_none, place_some, index_le, behind, split_at_first, behind_at, behind_end}

@@ -11,10 +11,10 @@ use lib.Dec.{eqb, ltb}
 use lib.ListN.{length, take, drop, length-drop}
 use lib.Seq.{drop-cons, drop-length}
 use Rattle.basics.specs.Choose.{choose}
+use Rattle.basics.proofs.Choose.{chosen_none, chosen_some}
 use Rattle.std.specs.Prelude.{Option, Some, None, cond, position}
 use Rattle.std.specs.List.{position_or_len}
 use Rattle.std.specs.Option.{option_map}
-use Rattle.digits.proofs.Chosen.{chosen_none, chosen_some}
 use Rattle.records.specs.Records.{onto, split_by, index_of, place_from}
 
 -- ---- the place of a byte

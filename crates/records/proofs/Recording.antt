@@ -1,5 +1,5 @@
 -- Laws of a line as a record, as the walk from field to field meets them. In order: the fields that are left, as `split` gives them; the
--- word; `Walked`, which is what the walk knows between two fields, with each way on from it or out of it; and how many numbers a record has.
+-- word; `Walked`, which is what the walk knows between two fields, with each way on from it or out of it; how many numbers a record has.
 use mathlib.Core.Path.{◌≡◌, refl, sym, ◌∙◌, ap, subst}
 use mathlib.Core.Bool.{Bool, true, false, false≢true, ◌&&◌}
 use mathlib.Core.List.{List, [], ◌∷◌, ◌++◌, map, tail, append_assoc, append-nil}
@@ -20,9 +20,8 @@ use Rattle.std.proofs.lemmas.Grind.{common_steps}
 use Rattle.std.proofs.lemmas.List.{length-set, take_more_set}
 use Rattle.std.proofs.lemmas.List.Splits.{slice_split_none, slice_split_at}
 use Rattle.basics.specs.Choose.{both}
-use Rattle.basics.proofs.Choose.{both_second}
+use Rattle.basics.proofs.Choose.{both_second, chosen_none, chosen_some}
 use Rattle.digits.specs.Numbers.{is_number, value_of, number_of}
-use Rattle.digits.proofs.Chosen.{chosen_none, chosen_some}
 use Rattle.digits.proofs.Spelling.{bad_number, good_number}
 use Rattle.words.specs.Bytes.{tab, same_bytes}
 use Rattle.records.specs.Records.{onto, split_by, largest, are_numbers, fields_of, is_record, numbers_in, record_of}

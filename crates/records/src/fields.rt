@@ -18,7 +18,7 @@ pub fn find(text: &[u8], byte: u8, from: usize) -> Option<usize>
     Some(from + place)
 }
 
-// Reads the numbers of a line that is the record of a word and as many numbers as there is room for; nothing is said of the room else.
+// Reads the numbers of a line that is the record of a word and as many numbers as the slice has; of another line it may write some.
 fn read_into(line: &[u8], word: &[u8], numbers: &mut [u32]) -> Option<()>
     ensures { option_map (λ _. numbers.new) result ≡ record_of word.now (length numbers.old) line.now }
 {

@@ -5,7 +5,7 @@ use Rattle.std.specs.Prelude.{Some, None}
 use Rattle.std.proofs.lemmas.Result.{err_from_is_err_and}
 use Rattle.basics.specs.Lists.{padded}
 use Rattle.lines.specs.Form.{flows_kept}
-use Rattle.digits.proofs.Chosen.{named_error}
+use Rattle.basics.proofs.Choose.{named_error}
 use Rattle.lines.proofs.FlowLines.{Flowing, flowing_begins, flowing_ends, flowing_bad, flowing_less, flowing_on}
 use Rattle.lines.proofs.flows.read_flows.Goals as goal
 
