@@ -75,6 +75,12 @@ pub count_none : (test : ℕ → Bool) → count_of test 0 ≡ 0
 unfolding count_of sum_of
 count_none test = refl
 
+-- where no number passes a test, none is counted
+pub none_counted : (test : ℕ → Bool) (n : ℕ) → ((q : ℕ) → q < n → test q ≡ false) → count_of test n ≡ 0
+unfolding count_of sum_of
+none_counted test zero e = refl
+none_counted test (suc n) e = omega (arith, none_counted test n (λ q h. e q (omega arith)), ap as_number (e n (omega arith)))
+
 -- counts of equal tests are equal
 pub count_same : (test other : ℕ → Bool) (n : ℕ) → ((q : ℕ) → q < n → test q ≡ other q) → count_of test n ≡ count_of other n
 unfolding count_of sum_of

@@ -5,6 +5,8 @@ ghost use Rattle.keys.specs.Slack.{Keyed, slacks_of};
 use arrays::Model;
 
 // The slack of each flow, D − occupancy; 0 past them.
+// Kept: a loop of its own beside `periods` of the model (u32): one `array::from_fn` for both was tried, and the check does not take apart
+// what it ensures of a closure with an `if`.
 pub fn slacks(model: Model) -> [u64; 64]
     requires { Keyed model }
     ensures { result ≡ slacks_of model }

@@ -1,5 +1,5 @@
--- What the tests leave: numbers that get past a test are in their ranges (`..-fair`), and numbers in their ranges get past it
--- (`..-passes`). A number and its range first; then in document 01's order: 2; 4; 5, 6 and 7 of a flow.
+-- What the tests leave: numbers that get past a test are in their ranges (`.._fair`), and numbers in their ranges get past it
+-- (`.._passes`). A number and its range first; then in document 01's order: 2; 4; 5, 6 and 7 of a flow.
 use mathlib.Core.Path.{◌≡◌, ap}
 use mathlib.Core.Bool.{false, not}
 use mathlib.Core.List.{List}

@@ -33,7 +33,7 @@ pub fn bad_list(numbers: &[u32]) -> bool
     numbers.len() % PER_FLOW != 0 || !(1..=64).contains(&flows_in(numbers))
 }
 
-// Kept: the tests of a flow take the list and the flow's number, since `nodes_fair`, `times_fair` and `long_fair` (docs/PROMISES.md) are of these.
+// Kept: the tests of a flow take the list and its number, since `nodes_fair`, `times_fair`, `long_fair` (docs/PROMISES.md) are of these.
 
 // 5: source or target no node, or the two equal.
 #[tactic(auto, unfolding(crate::specs::Limits::bad_nodes, model::specs::Flows::flow_of))]

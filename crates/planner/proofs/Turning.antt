@@ -2,11 +2,10 @@
 use mathlib.Core.Path.{◌≡◌, refl, sym, ◌∙◌, ap, ap₂}
 use mathlib.Core.Bool.{true, false}
 use mathlib.Core.List.{List, [], map}
-use Prim.Native.Nat.{ℕ, ◌<◌, ◌/◌}
+use Prim.Native.Nat.{ℕ, ◌<◌}
 use native.Mathlib.Nat.{zero-add}
 use native.Mathlib.Omega.{arith}
-use lib.ListN.{length, get_or, take, length-map, length-take, get_or-map}
-use Rattle.std.proofs.lemmas.List.{get_or-take}
+use lib.ListN.{length, get_or, length-map, get_or-map}
 use lib.Seq.{ext_get_or}
 use Rattle.std.specs.Prelude.{Ok, Err, is_ok, is_err}
 use Rattle.basics.specs.Choose.{choose}
@@ -17,12 +16,8 @@ use Rattle.packet.specs.Table.{packet_at}
 use Rattle.model.specs.Packets.{packets_in, packets_of}
 use Rattle.refusals.specs.Refusals.{Tested, accepted, refusal_of}
 use Rattle.model.specs.Fair.{Fair}
-use Rattle.load.specs.Entries.{no_packet, nth_flow, nth_packet}
-use Rattle.load.specs.declared.entries.FlowEntry.{FlowEntry}
 use Rattle.arrays.specs.Arrays.{flow_numbers, model_of, packet_in}
 use Rattle.model.specs.declared.answers.Answer.{Answer}
-use Rattle.arrays.specs.declared.build.Flows.{Flows}
-use Rattle.arrays.specs.declared.build.Packets.{Packets}
 use Rattle.arrays.specs.declared.build.Model.{Model}
 use Rattle.model.specs.declared.flows.Mesh.{Mesh}
 use Rattle.refusals.proofs.Accepted.{accepted_fair}
@@ -73,18 +68,6 @@ module _ (mesh : Mesh) (numbers : List ℕ) (fair : Fair mesh numbers) where
       ∙ ap (padded 1024 0)
       (by_places (λ (q : Packet). q.turn) refl (packets_of mesh numbers) (λ p. (packet_in (model_of mesh numbers).flows (model_of mesh numbers).packets p).turn)
       (λ p h. ap (λ (q : Packet). q.turn) (packet_in_lem mesh numbers fair p (omega (arith, packets_length mesh numbers)))))
-
--- a packet of the part that is filled
-pub packet_read : (packets : Packets) (p : ℕ) → p < length (take packets.count packets.all)
-    → nth_packet (take packets.count packets.all) p ≡ nth_packet packets.all p
-packet_read packets p h = get_or-take packets.count packets.all p no_packet (omega (arith, length-take packets.count packets.all))
-
--- a turn that is read off the arrays
-pub turn_read : (flows : Flows) (packets : Packets) (p : ℕ) → p < length (take packets.count packets.all) → (flow : FlowEntry)
-    → flow ≡ nth_flow flows.all (nth_packet (take packets.count packets.all) p).flow
-    → (nth_packet (take packets.count packets.all) p).release / flow.period ≡ (packet_in flows packets p).turn
-unfolding packet_in
-turn_read flows packets p h flow e = rw (e, packet_read packets p h) refl
 
 -- ---- plans
 

@@ -9,7 +9,7 @@ use model::{Answer, Mesh};
 use refusals::refusal;
 
 // The answer, and for 0 and 13 the flow and k of each packet; what follows them is 0.
-// Kept: two arrays, since put_piece of the printer, which a program calls itself, takes each as a slice of its own.
+// Kept: two arrays, since `put_piece` and `Output` (docs/PROMISES.md) take two slices of any two lengths; one slice of pairs is narrower.
 #[derive(Clone, Copy)]
 pub struct Plan {
     pub answer: Answer,
@@ -22,11 +22,12 @@ fn turns(flows: Flows, packets: Packets) -> [u16; 1024]
     requires { Turned flows packets }
     ensures { result ≡ padded 1024 0 (tabulate (λ p. (packet_in flows packets p).turn) 0 packets.count) }
 {
+    let n = packets.count;
     let mut all = [0u16; 1024];
-    // Kept: written by place, since the library says nothing of what an adapter of iter_mut writes.
-    for (p, packet) in packets.all[..packets.count].iter().enumerate() {
+    for (p, turn) in all[..n].iter_mut().enumerate() {
+        let packet = packets.all[p];
         let period = packet.flow_among(&flows.all).period;
-        all[p] = (packet.release / period) as u16;
+        *turn = (packet.release / period) as u16;
     }
     all
 }

@@ -45,6 +45,7 @@ pub struct Piece {
 }
 
 // Whether a number prints the table.
+// Kept: a number, since an answer holds document 01's number, and `passed_is_each_replay` and `complete_search` speak of it.
 #[tactic(auto, unfolding(crate::specs::Printer::prints_table))]
 fn prints_table(number: u32) -> bool
     ensures { result ≡ prints_table number }
@@ -156,6 +157,7 @@ pub fn put_piece(cursor: Cursor, output: Output<'_>, out: &mut [u8]) -> Piece
             next: Cursor::Done,
         };
     }
+    // Kept: a cursor is data that callers hold, and `put_piece` (docs/PROMISES.md) takes each.
     match cursor {
         Cursor::First => put_first(output, out),
         Cursor::Packet(p) => put_packet(p, output, out),

@@ -1,5 +1,5 @@
--- What the tests leave: numbers that get past all tests are in their ranges (`..-fair`), and numbers in their ranges get past them
--- (`..-passes`). In document 01's order: a flow; all flows; 8 and 9; then
+-- What the tests leave: numbers that get past all tests are in their ranges (`.._fair`), and numbers in their ranges get past them
+-- (`.._passes`). In document 01's order: a flow; all flows; 8 and 9; then
 -- the whole, `accepted_fair` and `fair_accepted`.
 use mathlib.Core.Path.{◌≡◌, refl, sym, ◌∙◌, ap}
 use mathlib.Core.Bool.{Bool, true, false, true≢false}

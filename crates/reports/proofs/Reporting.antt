@@ -18,8 +18,8 @@ use Rattle.std.proofs.lemmas.List.Sums.{count_by_more_yes, count_by_more_no}
 use Rattle.basics.specs.Choose.{as_number}
 use Rattle.basics.specs.First.{found}
 use Rattle.basics.proofs.First.{first_passes, found_from, found_first, found_not, found_same}
-use Rattle.basics.specs.Sums.{sum_of, count_of}
-use Rattle.basics.proofs.Sums.{sum_part, count_next, count_none, count_same}
+use Rattle.basics.specs.Sums.{count_of}
+use Rattle.basics.proofs.Sums.{sum_part, count_next, count_none, count_same, none_counted}
 use Rattle.packet.specs.Table.{none, placed}
 use Rattle.passes.specs.declared.repeat.Outcome.{Outcome}
 use Rattle.reports.specs.Reports.{number_for, place_for, report_of}
@@ -80,12 +80,6 @@ module _ (times : List ℕ) (n : ℕ) (whole : n ≤ length times) where
 
 -- ---- the answer
 
--- where none passes a test, none is counted
-count_zero : (test : ℕ → Bool) (n : ℕ) → ((j : ℕ) → j < n → test j ≡ false) → count_of test n ≡ 0
-unfolding count_of sum_of
-count_zero test zero none = refl
-count_zero test (suc n) none = omega (arith, count_zero test n (λ j h. none j (omega arith)), ap as_number (none n (omega arith)))
-
 module _ (found_now : Outcome) (hyper n skipped : ℕ) (e : skipped ≡ count_of (λ p. not (placed found_now.times p)) n) where
   -- none is skipped
   pub report_none : found (λ p. not (placed found_now.times p)) n ≡ None → record {
@@ -101,7 +95,7 @@ module _ (found_now : Outcome) (hyper n skipped : ℕ) (e : skipped ≡ count_of
       ≡ report_of found_now hyper n
   unfolding report_of number_for place_for
   report_none f =
-      let z = count_zero (λ p. not (placed found_now.times p)) n (found_not (λ p. not (placed found_now.times p)) n f) in
+      let z = none_counted (λ p. not (placed found_now.times p)) n (found_not (λ p. not (placed found_now.times p)) n f) in
       rw (e, z) refl
 
   -- some are

@@ -32,6 +32,7 @@ pub fn report(found: Outcome, hyper: u32, n: usize, table: &mut [u32]) -> Answer
     let times = &found.times[..n];
     table[..n].copy_from_slice(times);
     let skipped = skipped_in(times);
+    // Kept: the numbers 0 and 13, which document 01 gives an answer, and `complete_search` and `ended_search` speak of.
     let (number, place) = match lowest_in(times) {
         None => (0, 0),
         Some(lowest) => (13, lowest as u32),
@@ -39,11 +40,11 @@ pub fn report(found: Outcome, hyper: u32, n: usize, table: &mut [u32]) -> Answer
     Answer {
         number,
         place,
-        other: 0,
         hyper,
         packets: n as u32,
         passes: found.passes,
         tries: found.tries,
         skipped,
+        ..Answer::default()
     }
 }

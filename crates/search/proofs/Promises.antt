@@ -4,16 +4,15 @@
 use mathlib.Core.Path.{◌≡◌, refl, sym, ◌∙◌, ap, subst}
 use mathlib.Core.Bool.{Bool, true, false, not}
 use mathlib.Core.List.{List, ◌++◌}
-use Prim.Native.Nat.{ℕ, zero, suc, ◌+◌, ◌≤◌, ◌<◌}
+use Prim.Native.Nat.{ℕ, ◌+◌, ◌≤◌, ◌<◌}
 use native.Mathlib.Nat.{lt_of_not-le}
 use native.Mathlib.Decide.{dec_le}
 use native.Mathlib.Omega.{arith}
 use lib.Dec.{eqb}
 use lib.ListN.{length, get_or, drop, get_or-append}
 use borrow.Author.Tests.{eqb-true, not-true, not-false}
-use Rattle.basics.specs.Choose.{as_number}
 use Rattle.basics.specs.First.{first}
-use Rattle.basics.specs.Sums.{sum_of, count_of}
+use Rattle.basics.specs.Sums.{count_of}
 use Rattle.basics.proofs.First.{first_passes, first_least}
 use Rattle.packet.specs.Packet.{Packet}
 use Rattle.packet.specs.Table.{packet_at, time_at, passes, none, placed}
@@ -34,7 +33,7 @@ use Rattle.packet.proofs.Placed.{skipped_holds}
 use Rattle.passes.proofs.Complete.{search_length, search_safe, complete_passes}
 use Rattle.reports.specs.Reports.{number_for, place_for}
 use Rattle.search.specs.Answering.{settings_refusal, search_refusal, search_of, found_answer, answer_of, table_after}
-use Rattle.basics.proofs.Sums.{count_same}
+use Rattle.basics.proofs.Sums.{count_same, none_counted}
 use Rattle.search.proofs.Entering.{entry_fair}
 
 -- ---- a table with more places than packets
@@ -113,12 +112,6 @@ module _ (mesh : Mesh) (f g : ℕ) (numbers table : List ℕ) where
     found_safe =
         subst (Safe ps) (sym table_found) (safe_front ps found.table (drop (packets_in numbers) table) long (search_safe (slack_at ps) ps f g fitting))
 
--- where no number passes, none is counted
-count_no : (test : ℕ → Bool) (n : ℕ) → ((q : ℕ) → q < n → test q ≡ false) → count_of test n ≡ 0
-unfolding count_of sum_of
-count_no test zero e = refl
-count_no test (suc n) e = omega (arith, count_no test n (λ q h. e q (omega arith)), ap as_number (e n (omega arith)))
-
 -- what the number says of how many are skipped
 number_zero : (skipped : ℕ) → number_for skipped ≡ 0 → skipped ≡ 0
 unfolding number_for
@@ -148,7 +141,7 @@ lowest_of ps table e =
       | no a ↦ lt_of_not-le a
       | yes a ↦
           let none_skipped : count_of (λ p. not (placed table p)) (length ps) ≡ 0 =
-          count_no (λ p. not (placed table p)) (length ps) (λ q h. first_least (λ p. not (placed table p)) (length ps) q (omega arith)) in
+          none_counted (λ p. not (placed table p)) (length ps) (λ q h. first_least (λ p. not (placed table p)) (length ps) q (omega arith)) in
           absurd (let y : ◌≡◌ {A = ℕ} 0 13 = sym (rw (none_skipped, number_for) refl) ∙ e in omega arith)
     ] in (
       below,

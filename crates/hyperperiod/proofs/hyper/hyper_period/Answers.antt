@@ -1,5 +1,5 @@
--- `hyperperiod::hyper::hyper_period` meets its contract, by the laws of H in proofs/HyperPeriod.antt. The loop's invariant is `Folded`, what one
--- turn knows is `Turn`; an early stop is right since H is not below the fold of a part of the periods (`part_above`).
+-- `hyperperiod::hyper::hyper_period` meets its contract, by the laws of H in proofs/HyperPeriod.antt. The loop's invariant is `Folded`,
+-- what one turn knows is `Turn`; an early stop is right since H is not below the fold of a part of the periods (`part_above`).
 use Rattle.std.proofs.Common.{Some}
 use borrow.Author.Rules.{rules}
 use mathlib.Core.Path.{◌≡◌, refl, sym, ◌∙◌, ap}

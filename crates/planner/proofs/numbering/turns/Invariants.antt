@@ -1,9 +1,17 @@
--- `turns` stores one turn behind those before it in each round.
-use lib.ListN.{length}
+-- `turns` stores one turn in each round; those of the packets before p stand in front.
 use mathlib.Core.Path.{◌≡◌}
-use Rattle.basics.specs.Lists.{tabulate, padded}
+use mathlib.Core.List.{List}
+use Prim.Native.Nat.{ℕ, ◌<◌}
+use lib.ListN.{length, get_or}
 use Rattle.arrays.specs.Arrays.{packet_in}
+use Rattle.arrays.specs.declared.build.Flows.{Flows}
+use Rattle.arrays.specs.declared.build.Packets.{Packets}
 use Rattle.planner.proofs.numbering.turns.Given as goal
 
+-- the places lent to the loop hold the turns of the packets before p
+pub record Filled (flows : Flows) (packets : Packets) (items : List ℕ) (p : ℕ) : Type 0 where
+  pub front : (k : ℕ) → k < p → get_or items k 0 ≡ (packet_in flows packets k).turn
+  pub size : length items ≡ packets.count
+
 abbrev pub invariant-loop-p : goal.invariant-loop-p
-invariant-loop-p l = (l.all ≡ padded 1024 0 (tabulate (λ p. (packet_in l.flows l.fn.packets p).turn) 0 l.p)) × (length l.all ≡ 1024)
+invariant-loop-p l = Filled l.flows l.packets l.turn-items l.p

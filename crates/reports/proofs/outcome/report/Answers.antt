@@ -22,9 +22,9 @@ returns c =
     let written = ap (λ (xs : List ℕ). xs ++ drop c.args.n c.args.table.now) c.copy_from_slice.ensures.after in
     elim c.match-lowest_in.branch [
       | in-None w ↦
-          rw w.number-is
+          rw (w.number-is, c.default.ensures.1.1.0)
           (report_none c.args.found c.args.hyper c.args.n _ counted (sym (found_taken times c.args.n whole) ∙ sym w.in-None.ensures), written)
       | in-Some w ↦
-          rw w.number-is
+          rw (w.number-is, c.default.ensures.1.1.0)
           (report_some c.args.found c.args.hyper c.args.n _ counted _ (sym (found_taken times c.args.n whole) ∙ sym w.in-Some.ensures), written)
     ]

@@ -1,4 +1,4 @@
--- `words::writing::put_number` meets its contract: the kit's `decimal` writes the number's digits, which are 20 at most, and the word is copied.
+-- `words::writing::put_number` meets its contract: the kit's `decimal` writes the number's digits, 20 at most, and the word is copied.
 use mathlib.Core.Path.{◌∙◌}
 use native.Mathlib.Omega.{arith}
 use Rattle.digits.proofs.Decimals.{digits_are, digits_most}
