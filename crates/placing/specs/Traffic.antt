@@ -1,5 +1,5 @@
 -- The packets that the search's arrays hold.
-use Rattle.std.specs.Prelude.{List, ℕ, ◌+◌, get_or}
+use Rattle.std.specs.Prelude.{List, ℕ, ◌+◌}
 use Rattle.basics.specs.Lists.{tabulate}
 use Rattle.packet.specs.Packet.{Packet}
 use Rattle.load.specs.Load.{flow_at, span_of, path_for, due_at, release_at}

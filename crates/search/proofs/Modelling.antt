@@ -18,7 +18,7 @@ use Rattle.routes.proofs.XY.{route_numbers}
 use Rattle.hyperperiod.specs.Hyper.{most}
 use Rattle.packet.specs.Packet.{Packet, absent}
 use Rattle.packet.specs.Table.{packet_at}
-use Rattle.model.specs.Flows.{source_of, target_of, flows_in, links_of_flow, occupancy_in}
+use Rattle.model.specs.Flows.{source_of, target_of, flows_in, links_of_flow}
 use Rattle.model.specs.Packets.{packets_in, packet_of, packets_of}
 use Rattle.model.specs.Fair.{Fair}
 use Rattle.arrays.specs.Arrays.{empty_flow, entry_of_flow, flows_up_to, entry_of_packet, arrays_of, model_of, packet_in, packets_read}
