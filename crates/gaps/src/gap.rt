@@ -98,7 +98,7 @@ pub fn gap_for(
                 spot: taken.count,
             };
         }
-        // Kept: where the walk stands among the placed packets outlasts each turn of the outer loop, so no iterator of one turn has it.
+        // Kept: `split_first` over a slice that outlasts the outer loop was written; its proof, with j in all invariants, is not closed.
         while j < taken.count {
             let q = taken.by[j] as usize;
             let start = taken.times[q];

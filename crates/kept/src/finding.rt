@@ -19,7 +19,7 @@ impl Taken {
     {
         self.by[..self.count].partition_point(|q| {
             self.times
-                .get(*q as usize)
+                .get(usize::from(*q))
                 .is_some_and(|start| *start <= time)
         })
     }

@@ -26,6 +26,6 @@ impl PacketEntry {
         requires { self.flow < 64 }
         ensures { result.now ≡ nth_flow flows.now self.flow }
     {
-        &flows[self.flow as usize]
+        &flows[usize::from(self.flow)]
     }
 }

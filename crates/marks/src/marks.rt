@@ -12,7 +12,7 @@ pub fn stamp(marks: &mut [Option<u8>; ALL_LINKS], path: &[u16], own: usize)
 {
     let mark = Some(own as u8);
     for &link in path {
-        marks[link as usize] = mark;
+        marks[usize::from(link)] = mark;
     }
 }
 
@@ -22,5 +22,5 @@ pub fn has_mark(marks: &[Option<u8>; ALL_LINKS], own: usize, link: u16) -> bool
     requires { (own < 64) × (link < all_links) }
     ensures { result ≡ has_mark marks.now own link }
 {
-    marks[link as usize] == Some(own as u8)
+    marks[usize::from(link)] == Some(own as u8)
 }

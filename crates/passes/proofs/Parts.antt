@@ -7,7 +7,7 @@ use native.Mathlib.Decide.{dec_le}
 use native.Mathlib.Numerals.{add-one}
 use native.Mathlib.Omega.{arith}
 use lib.ListN.{length, get_or, take, drop, take-append-drop, length-append}
-use lib.Seq.{slice, slice-cons, length-slice, take-suc, take-take, drop_at, drop-append-le, drop-drop, take-append-add, length-take-le}
+use lib.Seq.{slice, slice-cons, take-suc, take-take, drop_at, drop-append-le, drop-drop, take-append-add, length-take-le}
 use Rattle.order.specs.Lists.{shifted}
 use Rattle.order.specs.Order.{occurs}
 use Rattle.order.proofs.Shifting.{slice_take, front, middle, shifted_front, shifted_before, shifted_at, shifted_moved, shifted_after}

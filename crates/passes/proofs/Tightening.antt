@@ -4,7 +4,7 @@ use mathlib.Core.Bool.{true, false, not, false≢true}
 use mathlib.Core.List.{List}
 use Prim.Native.Nat.{ℕ, ◌<◌}
 use lib.ListN.{length, set}
-use lib.Seq.{get_or-set_same, get_or-set_other}
+use lib.Seq.{get_or-set_same}
 use borrow.Author.Tests.{not-false}
 use Rattle.basics.specs.First.{first, some}
 use Rattle.basics.proofs.Choose.{both_pass, both_first, both_second}

@@ -6,7 +6,7 @@ use native.Mathlib.Nat.{zero-add}
 use native.Mathlib.Omega.{arith}
 use lib.ListN.{length, get_or}
 use Rattle.basics.specs.Lists.{tabulate, padded}
-use Rattle.basics.proofs.Lists.{tabulate_length, tabulate_at, padded_length, padded_at}
+use Rattle.basics.proofs.Lists.{tabulate_length, tabulate_at, padded_at}
 use Rattle.packet.specs.Packet.{Packet}
 use Rattle.order.specs.Order.{sorted}
 use Rattle.order.specs.Lists.{key_in}
@@ -24,13 +24,6 @@ module _ {model : Model} {f g : ℕ} (m : Modelled model f g) where
   -- there are as many slacks as flows
   slacks_count : length (tabulate (slack_in model.flows.all) 0 model.flows.count) ≡ model.flows.count
   slacks_count = tabulate_length (slack_in model.flows.all) 0 model.flows.count
-
-  -- in 64 places
-  pub slacks_long : length (slacks_of model) ≡ 64
-  unfolding slacks_of
-  slacks_long =
-      padded_length 64 0 (tabulate (slack_in model.flows.all) 0 model.flows.count)
-      (omega (arith, slacks_count, m.keyed.few))
 
   -- the slack of a packet is that of its flow
   slack_is : (p : ℕ) → p < model.packets.count → flow_key (slacks_of model) (flow_numbers model.packets.all) p ≡ slack_at (packets_read model) p

@@ -36,7 +36,7 @@ path-requires c = (own_flow c.requires, c.requires.loaded.paths)
 pub stamp-requires : goal.stamp-requires
 unfolding flow_at
 stamp-requires c =
-    (λ a h. omega (arith, ap (λ (l : List ℕ). get_or l a 0) c.path.ensures, path_number c.requires.loaded.paths _ (own_flow c.requires) a (omega (arith, ap length c.path.ensures))), own_flow c.requires, c.requires.honest.long)
+    (λ a h. omega (arith, ap (λ (l : List ℕ). get_or l a 0) c.path.ensures, path_number c.requires.loaded.paths _ (own_flow c.requires) a (omega (arith, ap length c.path.ensures))), own_flow c.requires)
 
 pub gap_for-requires : goal.gap_for-requires
 unfolding flow_at latest_at span_of

@@ -1,7 +1,7 @@
 -- `run` puts the packets in order of least slack, and takes the passes (proofs/Slack.antt, proofs/Modelling.antt).
 use mathlib.Core.Path.{◌∙◌}
 use Rattle.passes.proofs.Start.{listing_sorted}
-use Rattle.search.proofs.Slack.{slacks_long, slack_order}
+use Rattle.search.proofs.Slack.{slack_order}
 use Rattle.search.proofs.Modelling.{modelled_ready, modelled_search}
 use borrow.Author.Rules.{rules}
 use Rattle.search.proofs.carrying.run.Goals as goal
