@@ -22,7 +22,7 @@ use Rattle.placing.specs.Held.{place_in, stamped_for}
 use Rattle.placing.specs.Traffic.{packets_held}
 use Rattle.load.specs.declared.traffic.Traffic.{Traffic}
 use Rattle.placing.proofs.Bridging.{place_spot, packets_count, held_in}
-use Rattle.settling.specs.Settling.{nothing_taken, turned, turned_away}
+use Rattle.settling.specs.Settling.{turned, turned_away}
 use Rattle.settling.specs.declared.taking.Turned.TheVariants.{Again, Skipped}
 use Rattle.settling.proofs.Turning.{again_below, skipped_above}
 use Rattle.settling.specs.declared.taking.State.{State}
@@ -47,13 +47,10 @@ pub record Running (t : Traffic) (f g : ℕ) (start : State) (marks : List (Opti
 
 -- it starts
 pub running_start : {t : Traffic} {f g : ℕ} {start : State} → Runs t f g start
-    → {taken : Taken} {marks : List (Option ℕ)} → taken ≡ nothing_taken → marks ≡ replicate all_links None
+    → {taken : Taken} {marks : List (Option ℕ)} → taken.times ≡ replicate 1024 none → length taken.by ≡ 1024 → taken.count ≡ 0 → marks ≡ replicate all_links None
     → Running t f g start marks (stand_of start taken start.base 0)
-unfolding outcome pass_over list_of nothing_taken
-running_start {t} {f} {g} {start} runs {taken} is unmarked =
-    let e : taken.times ≡ replicate 1024 none = ap (λ (k : Taken). k.times) is in
-    let empty : taken.count ≡ 0 = ap (λ (k : Taken). k.count) is in
-    let by_long : length taken.by ≡ 1024 = ap (λ (k : Taken). length k.by) is ∙ length-replicate {A = ℕ} 1024 0 in
+unfolding outcome pass_over list_of
+running_start {t} {f} {g} {start} runs {taken} e by_long empty unmarked =
     let few : length (packets_held t) ≤ 1024 = (held_in t runs.ready.few).few in
     let table : take (length (packets_held t)) taken.times ≡ replicate (length (packets_held t)) none =
     ap (take (length (packets_held t))) e ∙ take_replicate (length (packets_held t)) 1024 none few in

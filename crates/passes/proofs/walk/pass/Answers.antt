@@ -1,5 +1,9 @@
 -- `pass` steps through its list; it is broken off, or runs to the end (proofs/Running.antt).
-use mathlib.Core.Path.{refl, ◌∙◌}
+use mathlib.Core.Path.{refl, ◌∙◌, ap}
+use lib.ListN.{length, length-replicate}
+use Prim.Native.Nat.{ℕ}
+use Rattle.settling.specs.Settling.{nothing_taken}
+use Rattle.kept.specs.declared.finding.Taken.{Taken}
 use Rattle.passes.proofs.Stepping.{place_asks, settles}
 use Rattle.passes.proofs.Failing.{turns}
 use Rattle.passes.proofs.Running.{running_start, more, running_placed, running_skipped, running_broken, running_whole}
@@ -7,7 +11,10 @@ use Rattle.passes.proofs.walk.pass.Goals.{in-At, in-Nowhere+in-Skipped}
 use Rattle.passes.proofs.walk.pass.Goals as goal
 
 pub loop-at-init : goal.loop-at-init
-loop-at-init c = running_start c.requires c.nothing_taken-taken.ensures refl
+unfolding nothing_taken
+loop-at-init c =
+    let is = c.nothing_taken-taken.ensures in
+    running_start c.requires (ap (λ (k : Taken). k.times) is) (ap (λ (k : Taken). length k.by) is ∙ length-replicate {A = ℕ} 1024 0) (ap (λ (k : Taken). k.count) is) refl
 
 pub place-gap-requires : goal.place-gap-requires
 place-gap-requires c = place_asks c.loop-at.invariant.ready c.loop-at.invariant.going (more c.loop-at.invariant c.loop-at-test.true) c.loop-at.invariant.honest
