@@ -6,6 +6,7 @@ use crate::entries::{FlowEntry, PacketEntry};
 
 // The packets, the first count of them; the flows, and how many packets before each of its own a flow's twin may stand, if there is one;
 // and the longest occupancy. What follows them is 0.
+// Kept: back beside flows, since it is a hint of the search and not of the model, whose flows are taken whole.
 #[derive(Clone, Copy)]
 pub struct Traffic {
     pub count: usize,

@@ -9,7 +9,7 @@ use model::{Answer, Mesh};
 use refusals::refusal;
 
 // The answer, and for 0 and 13 the flow and k of each packet; what follows them is 0.
-// Kept: two arrays, since `put_piece` and `Output` (docs/PROMISES.md) take two slices of any two lengths; one slice of pairs is narrower.
+// Kept: two arrays, since `put_piece` (docs/PROMISES.md) answers for two slices of any two lengths; one slice of pairs is narrower.
 #[derive(Clone, Copy)]
 pub struct Plan {
     pub answer: Answer,

@@ -6,6 +6,7 @@ ghost use Rattle.ranges.specs.Ranges.{strays, Scan};
 use arrays::{Flows, Packets};
 
 // Whether packet p may not start at its time.
+// Kept: flows, packets and table apart, as `first_outside` (docs/PROMISES.md), its one caller, has them.
 fn strays(flows: &Flows, packets: &Packets, table: &[u32], p: usize) -> bool
     requires { Scan flows.now packets.now table.now × (p < packets.now.count) }
     ensures { result ≡ strays flows.now packets.now table.now p }

@@ -45,6 +45,7 @@ impl From<Malformed> for Refusal {
 }
 
 // What a well-formed text says; the numbers of the first 65 flows are kept, beside how many flow lines there are.
+// Kept: pruning and threshold apart, as `search` (docs/PROMISES.md) takes them.
 // Kept: no heap, so the numbers stand in an array; the count is of all flow lines, which may be more than it holds.
 #[derive(Clone, Copy)]
 pub struct Input {

@@ -53,7 +53,7 @@ fn refuse_sums(numbers: &[u32]) -> Result<(), Refusal>
 
 // The order of the tests: 2; what the caller tests between 2 and 4; 4; then flow by flow 5, 6, 7; then 8, 9.
 // Kept: between is a value, since `refusal` (docs/PROMISES.md) takes what its caller tests.
-// Kept: mesh and numbers stand apart, since `check` and `search` (docs/PROMISES.md) take them so; bad_mesh takes the one and eight
+// Kept: mesh and numbers stand apart, since `check` and `search` (docs/PROMISES.md) take them so; bad_mesh takes the one and ten
 // functions the other alone.
 #[tactic(auto, unfolding(crate::specs::Refusals::refusal_of, crate::specs::Refusals::refuse_if), using(limits::proofs::Past::mesh_fair, limits::proofs::Past::list_fair, crate::proofs::Accepted::timed_past))]
 pub fn refusal(mesh: Mesh, between: Result<(), Refusal>, numbers: &[u32]) -> Result<(), Refusal>
