@@ -10,7 +10,6 @@ use Rattle.arrays.specs.declared.build.Flows.{Flows}
 use Rattle.arrays.specs.declared.build.Packets.{Packets}
 use Rattle.ranges.specs.Ranges.{strays, Scan}
 use Rattle.pairs.specs.declared.scan.Pair.{Pair}
-use Rattle.pairs.specs.declared.scan.Walk.{Walk}
 
 -- packet a of the arrays collides with the higher-numbered packet b
 unfoldable pub meets_in : Flows → Packets → List ℕ → ℕ → ℕ → Bool
@@ -29,10 +28,3 @@ first_pair flows packets table =
 pub record Timely (flows : Flows) (packets : Packets) (table : List ℕ) : Type 0 where
   pub scan : Scan flows packets table
   pub in_range : (p : ℕ) → p < packets.count → strays flows packets table p ≡ false
-
--- the same, of what the walk reads together
-abbrev pub TimelyOf : Walk → Type 0
-TimelyOf walk = Timely walk.flows.now walk.packets.now walk.table.now
-
-abbrev pub meets_for : Walk → ℕ → ℕ → Bool
-meets_for walk = meets_in walk.flows.now walk.packets.now walk.table.now

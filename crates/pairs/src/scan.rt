@@ -3,7 +3,7 @@ ghost use Rattle.std.specs.Prelude.{◌≡◌, ◌<◌};
 ghost use Rattle.basics.specs.First.{found};
 ghost use Rattle.packet.specs.Table.{time_at};
 ghost use Rattle.arrays.specs.Arrays.{packet_in};
-ghost use Rattle.pairs.specs.Scan.{first_pair, Timely, meets_for, TimelyOf};
+ghost use Rattle.pairs.specs.Scan.{first_pair, Timely, meets_in};
 
 use arrays::{Flows, Packets};
 use routes::share;
@@ -16,18 +16,19 @@ pub struct Pair {
     pub b: usize,
 }
 
-// What the walk reads: the flows and packets of a model, and a table offered for them.
+// What the walk reads: the flows and packets of a model, and a table offered for them with every time in range.
 #[derive(Clone, Copy)]
 struct Walk<'a> {
     flows: &'a Flows,
     packets: &'a Packets,
     table: &'a [u32],
+    ghost timely: { Timely flows.now packets.now table.now },
 }
 
 impl Walk<'_> {
     // The cycles in which packet p is held.
     fn window_of(self, p: usize) -> Window
-        requires { TimelyOf self × (p < self.packets.now.count) }
+        requires { p < self.packets.now.count }
         ensures start { result.start.0 ≡ time_at self.entry.table.now p }
         ensures span { result.span.0 ≡ (packet_in self.entry.flows.now self.entry.packets.now p).occupancy }
     {
@@ -39,8 +40,8 @@ impl Walk<'_> {
 
     // Whether packet a collides with the higher-numbered packet b. Windows are compared before links.
     fn meets(self, a: usize, b: usize) -> bool
-        requires { TimelyOf self × (a < b) × (b < self.packets.now.count) }
-        ensures { result ≡ meets_for self.entry a b }
+        requires { (a < b) × (b < self.packets.now.count) }
+        ensures { result ≡ meets_in self.entry.flows.now self.entry.packets.now self.entry.table.now a b }
     {
         let f = self.packets.all[a].flow_among(&self.flows.all);
         let g = self.packets.all[b].flow_among(&self.flows.all);
@@ -49,8 +50,8 @@ impl Walk<'_> {
 
     // The lowest packet above a that a collides with, or none.
     fn next_meeting(self, a: usize) -> Option<usize>
-        requires { TimelyOf self × (a < self.packets.now.count) }
-        ensures { result ≡ found (meets_for self.entry a) self.entry.packets.now.count }
+        requires { a < self.packets.now.count }
+        ensures { result ≡ found (meets_in self.entry.flows.now self.entry.packets.now self.entry.table.now a) self.entry.packets.now.count }
     {
         (a + 1..self.packets.count).find(|&b| self.meets(a, b))
     }

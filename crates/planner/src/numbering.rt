@@ -4,7 +4,7 @@ ghost use Rattle.basics.specs.Lists.{tabulate, padded};
 ghost use Rattle.arrays.specs.Arrays.{packet_in};
 ghost use Rattle.planner.specs.Numbered.{packets_for, plan_for, Turned};
 
-use arrays::{Flows, Packets, model_of};
+use arrays::{Model, model_of};
 use model::{Answer, Mesh};
 use refusals::refusal;
 
@@ -18,15 +18,15 @@ pub struct Plan {
 }
 
 // The turn of each packet; what follows them is 0.
-fn turns(flows: Flows, packets: Packets) -> [u16; 1024]
-    requires { Turned flows packets }
-    ensures { result ≡ padded 1024 0 (tabulate (λ p. (packet_in flows packets p).turn) 0 packets.count) }
+fn turns(model: &Model) -> [u16; 1024]
+    requires { Turned model.now.flows model.now.packets }
+    ensures { result ≡ padded 1024 0 (tabulate (λ p. (packet_in model.now.flows model.now.packets p).turn) 0 model.now.packets.count) }
 {
-    let n = packets.count;
+    let n = model.packets.count;
     let mut all = [0u16; 1024];
     for (p, turn) in all[..n].iter_mut().enumerate() {
-        let packet = packets.all[p];
-        let period = packet.flow_among(&flows.all).period;
+        let packet = model.packets.all[p];
+        let period = packet.flow_among(&model.flows.all).period;
         *turn = (packet.release / period) as u16;
     }
     all
@@ -54,6 +54,6 @@ pub fn with_packets(answer: Answer, mesh: Mesh, numbers: &[u32]) -> Plan
     }
     let m = model_of(mesh, numbers);
     let flow = m.packets.flow_numbers();
-    let turn = turns(m.flows, m.packets);
+    let turn = turns(&m);
     Plan { answer, flow, turn }
 }

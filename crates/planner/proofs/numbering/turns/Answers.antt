@@ -16,12 +16,12 @@ pub loop-p-preserved : goal.loop-p-preserved
 unfolding packet_in
 loop-p-preserved c = record {
   front = rw c.flow_among.ensures
-      (fill_by_more (λ k. (packet_in c.args.flows c.args.packets k).turn) c.loop-p.turn-items c.loop-p.p 0
+      (fill_by_more (λ k. (packet_in c.args.model.now.flows c.args.model.now.packets k).turn) c.loop-p.turn-items c.loop-p.p 0
       (omega (arith, c.loop-p.invariant.size, c.loop-p-test.true)) c.loop-p.invariant.front);
   size = simp length-set c.loop-p.invariant.size;
 }
 
 pub returns : goal.returns
 returns c =
-    padded_front 1024 0 (λ p. (packet_in c.args.flows c.args.packets p).turn) c.args.packets.count 0 c.loop-p.turn-items c.loop-p.invariant.size
+    padded_front 1024 0 (λ p. (packet_in c.args.model.now.flows c.args.model.now.packets p).turn) c.args.model.now.packets.count 0 c.loop-p.turn-items c.loop-p.invariant.size
     (λ k h. c.loop-p.invariant.front k (omega (arith, c.loop-p-test.false, c.loop-p.invariant.size)))

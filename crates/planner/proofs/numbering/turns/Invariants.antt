@@ -14,4 +14,4 @@ pub record Filled (flows : Flows) (packets : Packets) (items : List ℕ) (p : �
   pub size : length items ≡ packets.count
 
 abbrev pub invariant-loop-p : goal.invariant-loop-p
-invariant-loop-p l = Filled l.flows l.packets l.turn-items l.p
+invariant-loop-p l = Filled l.model.flows l.model.packets l.turn-items l.p
