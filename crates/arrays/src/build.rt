@@ -8,7 +8,7 @@ ghost use Rattle.arrays.specs.Arrays.{Packable, no_flows, flows_up_to, flow_numb
 
 use load::{FlowEntry, PacketEntry};
 use model::{Mesh, flow_of, flows_in, hyper_in, occupancy_of};
-use routes::{Path, route};
+use routes::route;
 
 // The flows: the first count of all; what follows them is 0.
 #[derive(Clone, Copy)]
@@ -22,19 +22,9 @@ impl Flows {
     fn none() -> Flows
         ensures { result ≡ no_flows }
     {
-        let no_path = Path {
-            links: [0; 32],
-            len: 0,
-        };
-        let empty = FlowEntry {
-            period: 0,
-            due: 0,
-            occupancy: 0,
-            path: no_path,
-        };
         Flows {
             count: 0,
-            all: [empty; 64],
+            all: [FlowEntry::default(); 64],
         }
     }
 
@@ -60,13 +50,9 @@ impl Packets {
     fn none() -> Packets
         ensures { result ≡ arrays_of [] }
     {
-        let empty = PacketEntry {
-            flow: 0,
-            release: 0,
-        };
         Packets {
             count: 0,
-            all: [empty; 1024],
+            all: [PacketEntry::default(); 1024],
         }
     }
 

@@ -5,7 +5,7 @@ ghost use Rattle.load.specs.Entries.{nth_flow};
 use routes::Path;
 
 // A flow: its period, deadline, occupancy and path.
-#[derive(Clone, Copy)]
+#[derive(Clone, Copy, Default)]
 pub struct FlowEntry {
     pub period: u32,
     pub due: u32,
@@ -14,7 +14,7 @@ pub struct FlowEntry {
 }
 
 // A packet: its flow and its release.
-#[derive(Clone, Copy)]
+#[derive(Clone, Copy, Default)]
 pub struct PacketEntry {
     pub flow: u16,
     pub release: u32,

@@ -8,6 +8,8 @@ use Prim.Native.Nat.{ℕ, zero, suc, ◌+◌, ◌*◌, ◌-◌, ◌≤◌, ◌<�
 use native.Mathlib.Nat.{suc-mul}
 use native.Mathlib.Omega.{arith}
 use lib.Dec.{leb}
+use Rattle.std.specs.Array.{AllOfLen}
+use Rattle.std.proofs.lemmas.List.{ext_get_or, get_or-replicate}
 use Rattle.basics.specs.Choose.{choose}
 use Rattle.basics.specs.Lists.{padded}
 use Rattle.basics.proofs.Lists.{padded_push}
@@ -109,10 +111,18 @@ pub path_len : (p : Path) (ls : List ℕ) → p ≡ path_of ls → p.len ≡ len
 unfolding path_of
 path_len p ls e = ap (λ (q : Path). q.len) e
 
--- the first link on the empty path
-pub begun : {p : Path} (l : ℕ) → p ≡ pushed (record { links = replicate 32 0; len = 0 }) l → p ≡ path_of (l ∷ [])
+-- a path of 32 zeros that lists none is the path without links
+pub empty_path : {p : Path} → AllOfLen (λ (l : ℕ). l ≡ 0) p.links 32 × p.len ≡ 0 → p ≡ path_of []
 unfolding padded path_of
-begun {p} l e = e ∙ push_path [] l (omega arith)
+empty_path {p} (zeros, none) =
+    ap₂ {C = Path} (λ (links : List ℕ) (len : ℕ). record { links = links; len = len })
+    (ext_get_or 0 p.links (replicate 32 0) zeros.long
+    (λ i h. let l : i < 32 = omega (arith, h, zeros.long) in zeros.at i 0 l ∙ sym (get_or-replicate 32 i 0 0 l)))
+    none
+
+-- the first link on the empty path
+pub begun : {d p : Path} (l : ℕ) → AllOfLen (λ (l : ℕ). l ≡ 0) d.links 32 × d.len ≡ 0 → p ≡ pushed d l → p ≡ path_of (l ∷ [])
+begun {d} {p} l none e = e ∙ ap (λ (q : Path). pushed q l) (empty_path none) ∙ push_path [] l (omega arith)
 
 -- one more link after those of a list
 pub grown : (p p' : Path) (ls : List ℕ) (l : ℕ) → p ≡ path_of ls → length ls < 32 → p' ≡ pushed p l → p' ≡ path_of (ls ++ (l ∷ []))

@@ -9,7 +9,7 @@ use mesh::{Kind, Place, end_of, far, link_of, node_at, place_of};
 
 // The links of a path: the first len of the array; what follows them is 0.
 // Kept: the array beside its length, as document 01 names it; no ghost field, as `path_of`, `pushed` and `no_path` build it of two fields.
-#[derive(Clone, Copy, PartialEq, Eq)]
+#[derive(Clone, Copy, PartialEq, Eq, Default)]
 pub struct Path {
     pub links: [u16; 32],
     pub len: usize,
@@ -70,10 +70,7 @@ pub fn route(columns: usize, source: usize, target: usize) -> Path
     };
     let along = kind_towards(Kind::NextColumn, Kind::ColumnBefore, a.column, b.column);
     let across = kind_towards(Kind::NextRow, Kind::RowBefore, a.row, b.row);
-    let mut path = Path {
-        links: [0; 32],
-        len: 0,
-    };
+    let mut path = Path::default();
     path.push(link_of(source, Kind::LocalIn));
     path.walk(columns, along, far(a.column, b.column), a);
     path.walk(columns, across, far(a.row, b.row), turn);
