@@ -2,7 +2,6 @@
 #![tactic(auto)]
 
 use planner::plan_of;
-use printer::{Lines, Output};
 use reader::TEXT_BUFFER;
 
 // The numbers of the input and of the output.
@@ -17,13 +16,7 @@ fn main() {
     let n = io::read_full(STDIN, &mut text);
     let mut table = [0u32; 1024];
     let plan = plan_of(&text[..n], &mut table);
-    let output = Output {
-        answer: plan.answer,
-        table: &table,
-        flows: &plan.flow,
-        turns: &plan.turn,
-    };
-    for line in Lines::new(output) {
+    for line in plan.lines(&table) {
         if !io::write_all(STDOUT, line.as_bytes()) {
             return;
         }

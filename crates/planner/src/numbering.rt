@@ -2,10 +2,12 @@
 ghost use Rattle.std.specs.Prelude.{◌≡◌, []};
 ghost use Rattle.basics.specs.Lists.{tabulate, padded};
 ghost use Rattle.arrays.specs.Arrays.{packet_in};
+ghost use Rattle.printer.specs.ByLine.{lines_of, lines_left};
 ghost use Rattle.planner.specs.Numbered.{packets_for, plan_for, Turned};
 
 use arrays::{Model, model_of};
 use model::{Answer, Mesh};
+use printer::{Lines, Output};
 use refusals::refusal;
 
 // The answer, and for 0 and 13 the flow and k of each packet; what follows them is 0.
@@ -15,6 +17,20 @@ pub struct Plan {
     pub answer: Answer,
     pub flow: [u16; 1024],
     pub turn: [u16; 1024],
+}
+
+impl Plan {
+    // The lines of the plan's text, with the table that was lent.
+    pub fn lines<'a>(&'a self, table: &'a [u32]) -> Lines<'a>
+        ensures { lines_left result ≡ lines_of self.now.answer table.now self.now.flow self.now.turn }
+    {
+        Lines::new(Output {
+            answer: self.answer,
+            table,
+            flows: &self.flow,
+            turns: &self.turn,
+        })
+    }
 }
 
 // The turn of each packet; what follows them is 0.

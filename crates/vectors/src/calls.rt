@@ -5,7 +5,6 @@ use crate::stream::Stream;
 use audit::check;
 use model::Mesh;
 use planner::plan_of;
-use printer::{Lines, Output};
 use reader::LIMIT;
 use search::search;
 
@@ -60,13 +59,7 @@ fn text_call(stream: &mut Stream) {
     let mut text = [0u8; TEXT];
     let mut table = [0u32; 1024];
     let plan = plan_of(stream.text(&mut text), &mut table);
-    let output = Output {
-        answer: plan.answer,
-        table: &table,
-        flows: &plan.flow,
-        turns: &plan.turn,
-    };
-    for line in Lines::new(output) {
+    for line in plan.lines(&table) {
         io::write_all(STDOUT, line.as_bytes());
     }
 }
