@@ -60,20 +60,6 @@ path_test traffic g h {a} {b} {same} e f r =
     let links : Decides same (a ≡ b) = Decides-at same (bytes_eq a b) r (bytes_eq-Decides a b) in
     same_from_decides same (same_path traffic.flows g h) (rw (e, f) at links) (paths_same traffic.flows g h, same_paths traffic.flows g h)
 
--- tests one after the other, of which the first three pass
-pub chain_pass : (a b d : Bool) {e v w r : Bool} → v ≡ both a b → w ≡ both v d → w ≡ true → r ≡ e → r ≡ both a (both b (both d e))
-chain_pass true true true one two t same = same
-chain_pass true true false one two t same = absurd (false≢true (sym (two ∙ ap (λ (x : Bool). both x false) one) ∙ t))
-chain_pass true false d one two t same = absurd (false≢true (sym (two ∙ ap (λ (x : Bool). both x d) one) ∙ t))
-chain_pass false b d one two t same = absurd (false≢true (sym (two ∙ ap (λ (x : Bool). both x d) one) ∙ t))
-
--- or one of them fails
-pub chain_fail : (a b d e : Bool) {v w : Bool} → v ≡ both a b → w ≡ both v d → w ≡ false → w ≡ both a (both b (both d e))
-chain_fail true true true e one two t = absurd (false≢true (sym t ∙ (two ∙ ap (λ (x : Bool). both x true) one)))
-chain_fail true true false e one two t = t
-chain_fail true false d e one two t = t
-chain_fail false b d e one two t = t
-
 -- ---- a twin
 
 module _ (traffic : Traffic) (taken : Taken) (p q : ℕ) (e : is_twin traffic taken p q ≡ true) where

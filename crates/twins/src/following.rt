@@ -8,6 +8,7 @@ use load::Traffic;
 use packet::NO_TIME;
 
 // Whether packet q is a twin of packet p that is placed: it has the same release and the same path, and no longer occupancy.
+#[tactic(auto, using(crate::proofs::Twinning::path_test), unfolding(crate::specs::Twins::is_twin, load::specs::Load::span_of, load::specs::Load::flow_at))]
 fn is_twin(traffic: &Traffic, taken: &Taken, p: usize, q: usize) -> bool
     requires { Pair traffic.now p q }
     ensures { result ≡ is_twin traffic.now taken.now p q }
