@@ -16,6 +16,9 @@ use Rattle.search.specs.Answering.{settings_refusal, bad_table, search_refusal, 
 use Rattle.printer.specs.Printer.{pieces_of}
 use Rattle.printer.specs.declared.printing.Cursor.TheVariants.{First}
 use Rattle.printer.proofs.Pieces.{all_pieces}
+use Rattle.std.specs.List.{concat}
+use Rattle.printer.specs.ByLine.{lines_of}
+use Rattle.printer.proofs.ByLine.{all_lines}
 use Rattle.planner.specs.Plan.{printed_of}
 use Rattle.planner.specs.declared.numbering.Plan.{Plan}
 
@@ -24,6 +27,11 @@ pub program_prints : (plan : Plan) (table : List ℕ)
     → pieces_of plan.answer table plan.flow plan.turn (plan.answer.packets + 2) First ≡ printed_of plan table
 unfolding printed_of
 program_prints plan table = all_pieces plan.answer table plan.flow plan.turn
+
+-- what the program writes: the lines of a plan, joined, are its output text
+pub program_lines : (plan : Plan) (table : List ℕ) → concat (lines_of plan.answer table plan.flow plan.turn) ≡ printed_of plan table
+unfolding printed_of
+program_lines plan table = all_lines plan.answer table plan.flow plan.turn
 
 -- ---- a bad list of flows
 

@@ -19,12 +19,12 @@ use Rattle.lines.proofs.TextLines.{line_ends, line_from_lem, parts_on, line_bad,
 use Rattle.lines.proofs.FlowLines.{flows_err, flows_ok}
 use Rattle.reader.specs.Reader.{mesh_of, well_formed, input_in, input_of}
 use Rattle.reader.specs.declared.reading.Input.{Input}
-use Rattle.reader.specs.declared.reading.Malformed.TheVariants.{TooLong, Line as BadAt}
+use Rattle.reader.specs.declared.reading.Malformed.TheVariants.{OverLimit, Line as BadAt}
 
 -- ---- the answer by the first bad line
 
 -- a text that is too long
-pub too_long_lem : (text : List ℕ) → limit < length text → Err TooLong ≡ input_of text
+pub too_long_lem : (text : List ℕ) → limit < length text → Err OverLimit ≡ input_of text
 unfolding input_of
 too_long_lem text h = sym (rw (lt-ltb limit (length text) h))
 

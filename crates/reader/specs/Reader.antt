@@ -6,7 +6,7 @@ use Rattle.records.specs.Records.{numbers_in}
 use Rattle.lines.specs.Form.{limit, bad_line, parts_of, all_numbers, flows_kept}
 use Rattle.reader.specs.declared.reading.Input.{Input}
 use Rattle.reader.specs.declared.reading.Malformed.{Malformed}
-use Rattle.reader.specs.declared.reading.Malformed.TheVariants.{TooLong, Line}
+use Rattle.reader.specs.declared.reading.Malformed.TheVariants.{OverLimit, Line}
 
 -- columns, rows, r and flit width
 unfoldable pub mesh_of : List ℕ → Mesh
@@ -14,7 +14,7 @@ mesh_of numbers = record { columns = get_or numbers 0 0; rows = get_or numbers 1
 
 -- the place that document 01 gives a malformed text: its first bad line, from 1; 0 if it is over 8,192 bytes
 unfoldable pub malformed_place : Malformed → ℕ
-malformed_place TooLong = 0
+malformed_place OverLimit = 0
 malformed_place (Line n) = n
 
 -- a well-formed text: its mesh line, its search line, its flow lines, and the empty part behind the last line feed
@@ -33,4 +33,4 @@ input_in parts = choose (eqb (bad_line 1 parts) 0) (Ok (well_formed parts)) (Err
 
 -- what a text says; over 8,192 bytes it is malformed
 unfoldable pub input_of : List ℕ → Result Input Malformed
-input_of text = choose (ltb limit (length text)) (Err TooLong) (input_in (parts_of text))
+input_of text = choose (ltb limit (length text)) (Err OverLimit) (input_in (parts_of text))

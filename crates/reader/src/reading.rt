@@ -18,7 +18,7 @@ pub const TEXT_BUFFER: usize = LIMIT + 1;
 #[derive(Clone, Copy, Debug, PartialEq, Eq)]
 pub enum Malformed {
     // It has more bytes than a text may have.
-    TooLong,
+    OverLimit,
     // This line is bad, the first that is.
     Line(u32),
 }
@@ -37,7 +37,7 @@ impl From<Malformed> for Refusal {
     #[tactic(auto, unfolding(crate::specs::Reader::malformed_place))]
     fn from(why: Malformed) -> Refusal {
         let line = match why {
-            Malformed::TooLong => 0,
+            Malformed::OverLimit => 0,
             Malformed::Line(line) => line,
         };
         Refusal::Malformed { line }
@@ -62,7 +62,7 @@ pub fn read(text: &[u8]) -> Result<Input, Malformed>
     ensures { result ≡ input_of text.now }
 {
     if LIMIT < text.len() {
-        return Err(Malformed::TooLong);
+        return Err(Malformed::OverLimit);
     }
     let first = read_line::<4>(text, 0, &MESH).ok_or(Malformed::Line(1))?;
     let second = read_line::<2>(text, first.next, &SEARCH).ok_or(Malformed::Line(2))?;
