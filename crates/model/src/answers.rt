@@ -29,6 +29,8 @@ pub enum Refusal {
     Outside { packet: u32 },
     // 12: this packet, the lowest such, collides with a higher-numbered one, of which other is the lowest.
     Collision { packet: u32, other: u32 },
+    // A caller's own, by any number and place: none of document 01's tests gives it.
+    Own { number: u32, place: u32 },
 }
 
 // An answer: a field that its number does not name is 0.
@@ -47,7 +49,7 @@ pub struct Answer {
 }
 
 impl Refusal {
-    // Its number in document 01.
+    // Its number in document 01, or the caller's.
     #[tactic(auto, unfolding(crate::specs::Answers::refusal_number))]
     pub fn number(self) -> u32
         ensures { result ≡ refusal_number self }
@@ -65,10 +67,11 @@ impl Refusal {
             Refusal::ShortTable => 10,
             Refusal::Outside { .. } => 11,
             Refusal::Collision { .. } => 12,
+            Refusal::Own { number, .. } => number,
         }
     }
 
-    // Its place: the line, the flow or the packet that it names, or 0.
+    // Its place: the line, the flow or the packet that it names, or 0; or the caller's.
     #[tactic(auto, unfolding(crate::specs::Answers::refusal_place))]
     pub fn place(self) -> u32
         ensures { result ≡ refusal_place self }
@@ -78,6 +81,7 @@ impl Refusal {
             Refusal::BadNodes { flow } | Refusal::BadTimes { flow } | Refusal::TooLong { flow } =>
                 flow,
             Refusal::Outside { packet } | Refusal::Collision { packet, .. } => packet,
+            Refusal::Own { place, .. } => place,
             _ => 0,
         }
     }

@@ -8,8 +8,10 @@ use Rattle.passes.specs.Search.{found_of}
 use Rattle.passes.proofs.repeat.rounds.Reads as rounds
 use Rattle.passes.proofs.repeat.rounds.Kinds as rounds_kinds
 
--- what the passes leave
-pub rounds_determined : (κs : Lfts 1) (a : Dens κs rounds_kinds.ps) (x y : (res_t rounds_kinds.r κs).Denot)
-    (s t : AtExit (ended_of 1 rounds_kinds.ps rounds_kinds.r) κs) → rounds.Post κs a x s → rounds.Post κs a y t
-    → found_of a.1.0.now.count x ≡ found_of a.1.0.now.count y
-rounds_determined κs a x y s t p q = p.same ∙ sym q.same
+-- what the passes leave, of any two calls with equal arguments
+pub rounds_determined : (κs λs : Lfts 1) (a : Dens κs rounds_kinds.ps) (b : Dens λs rounds_kinds.ps)
+    (x : (res_t rounds_kinds.r κs).Denot) (y : (res_t rounds_kinds.r λs).Denot)
+    (s : AtExit (ended_of 1 rounds_kinds.ps rounds_kinds.r) κs) (t : AtExit (ended_of 1 rounds_kinds.ps rounds_kinds.r) λs)
+    → a.0 ≡ b.0 → a.1.0.now ≡ b.1.0.now → a.1.1.0 ≡ b.1.1.0
+    → rounds.Post κs a x s → rounds.Post λs b y t → found_of a.1.0.now.count x ≡ found_of b.1.0.now.count y
+rounds_determined κs λs a b x y s t list traffic settings p q = p.same ∙ (cc) ∙ sym q.same

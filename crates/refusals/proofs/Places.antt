@@ -1,5 +1,6 @@
 -- Every refusal is a row of document 01's table, at the place that the row names: 0 for 2, 4, 8 and 9, the flow for 5, 6 and 7.
--- Of the flows that are refused it is the lowest, by its own first test (`Lowest`). The law is `refusal_given`, at the end.
+-- Of the flows that are refused it is the lowest, by its own first test (`Lowest`). The laws are `refusal_given` and `refusal_in_table`, at
+-- the end.
 use mathlib.Core.Path.{◌≡◌, refl}
 use mathlib.Core.Bool.{Bool, true, false}
 use mathlib.Core.List.{List}
@@ -12,7 +13,7 @@ use Rattle.basics.specs.Choose.{choose}
 use Rattle.basics.specs.First.{first}
 use Rattle.basics.proofs.First.{first_least}
 use Rattle.model.specs.Flows.{flows_in}
-use Rattle.model.specs.Answers.{refusal_number, refusal_place}
+use Rattle.model.specs.Answers.{refusal_number, refusal_place, in_table}
 use Rattle.refusals.specs.Refusals.{Tested, bad_flow, accepted, refuse_if, flow_refusal, flows_refusal, sums_refusal, refusal_of}
 use Rattle.model.specs.Fair.{FairFlow}
 use Rattle.model.specs.declared.flows.Mesh.{Mesh}
@@ -82,3 +83,38 @@ module _ (mesh : Mesh) (between : Tested) (numbers : List ℕ) where
     where
       P : Tested → Type 0
       P = Given mesh between numbers
+
+  -- a refusal is a row of the table, where the caller's is
+  abbrev pub Row : Tested → Type 0
+  Row t = (r : Refusal) → t ≡ Err r → in_table r ≡ true
+
+  -- the refusal of a flow
+  flow_row : (f : ℕ) → Row (flow_refusal mesh numbers f)
+  unfolding flow_refusal refuse_if in_table
+  flow_row f r e = grind arith
+
+  -- no refusal
+  no_row : Row accepted
+  no_row r e = grind arith
+
+  -- the refusal of the flows together
+  flows_row : Row (flows_refusal mesh numbers)
+  unfolding flows_refusal
+  flows_row = go (ltb lowest (flows_in numbers))
+    where
+      lowest : ℕ
+      lowest = first (bad_flow mesh numbers) (flows_in numbers)
+
+      go : (t : Bool) → Row (choose t (flow_refusal mesh numbers lowest) accepted)
+      go true = flow_row lowest
+      go false = no_row
+
+  -- every refusal is a row of the table where the caller's own test gives one
+  pub refusal_in_table : Row between → Row (refusal_of mesh between numbers)
+  unfolding refusal_of sums_refusal in_table
+  refusal_in_table own =
+      and_holds Row _ _ (refuse_holds Row _ BadMesh (λ r e. grind arith) no_row)
+      (and_holds Row _ _ own
+      (and_holds Row _ _ (refuse_holds Row _ BadList (λ r e. grind arith) no_row)
+      (and_holds Row _ _ flows_row
+      (and_holds Row _ _ (refuse_holds Row _ LongHyper (λ r e. grind arith) no_row) (refuse_holds Row _ ManyPackets (λ r e. grind arith) no_row)))))

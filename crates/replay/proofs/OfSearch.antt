@@ -18,7 +18,7 @@ use Rattle.audit.specs.Check.{check_of}
 use Rattle.keys.specs.Slack.{slack_at}
 use Rattle.passes.proofs.Complete.{search_length}
 use Rattle.search.specs.Answering.{settings_refusal, search_refusal, search_of, answer_of, table_after}
-use Rattle.search.proofs.Promises.{complete_search}
+use Rattle.search.proofs.Promises.{complete_search, search_in_table}
 use Rattle.replay.specs.Demand.{Offered, Replays, Received}
 use Rattle.replay.proofs.OfModel.{model_sound}
 use Rattle.replay.proofs.OfCheck.{check_passes, passed_is_each_replay, passed_is_received}
@@ -31,7 +31,7 @@ module _ (mesh : Mesh) (f g : ℕ) (numbers table : List ℕ) (complete : (answe
     where
       go : (t : Tested) → search_refusal mesh f g numbers table ≡ t → (answer_of mesh f g numbers table).number ≡ 0 → t ≡ accepted
       go (Ok x) e z = refl
-      go (Err r) e z = absurd (let n : ◌≡◌ {A = ℕ} (refusal_number r) 0 = rw e at z in omega (arith, number_low r))
+      go (Err r) e z = absurd (let n : ◌≡◌ {A = ℕ} (refusal_number r) 0 = rw e at z in omega (arith, number_low r (search_in_table mesh f g numbers table r e)))
 
   -- the model has every number in its range
   fair : Fair mesh numbers

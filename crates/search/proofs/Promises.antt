@@ -17,11 +17,14 @@ use Rattle.basics.proofs.First.{first_passes, first_least}
 use Rattle.packet.specs.Packet.{Packet}
 use Rattle.packet.specs.Table.{packet_at, time_at, passes, none, placed}
 use Rattle.model.specs.Packets.{packets_in, packets_of}
-use Rattle.refusals.specs.Refusals.{Tested, accepted, refusal_of}
+use Rattle.refusals.specs.Refusals.{Tested, accepted, refuse_if, refusal_of}
+use Rattle.refusals.proofs.Places.{refusal_in_table}
 use Rattle.std.specs.Prelude.{Ok, Err}
-use Rattle.model.specs.Answers.{refused_by, refusal_number}
+use Rattle.std.specs.Result.{result_and}
+use Rattle.model.specs.Answers.{refused_by, refusal_number, in_table}
 use Rattle.model.specs.declared.flows.Mesh.{Mesh}
 use Rattle.model.specs.declared.answers.Refusal.{Refusal}
+use Rattle.model.specs.declared.answers.Refusal.TheVariants.{ShortTable}
 use Rattle.model.specs.declared.answers.Answer.{Answer}
 use Rattle.model.proofs.Refusing.{number_low, number_high}
 use Rattle.model.proofs.Numbering.{packets_length}
@@ -32,7 +35,7 @@ use Rattle.passes.proofs.Sound.{Safe}
 use Rattle.packet.proofs.Placed.{skipped_holds}
 use Rattle.passes.proofs.Complete.{search_length, search_safe, complete_passes}
 use Rattle.reports.specs.Reports.{number_for, place_for}
-use Rattle.search.specs.Answering.{settings_refusal, search_refusal, search_of, found_answer, answer_of, table_after}
+use Rattle.search.specs.Answering.{settings_refusal, bad_table, search_refusal, search_of, found_answer, answer_of, table_after}
 use Rattle.basics.proofs.Sums.{count_same, none_counted}
 use Rattle.search.proofs.Entering.{entry_fair}
 
@@ -155,6 +158,22 @@ refused_number : (mesh : Mesh) (f g : ℕ) (numbers table : List ℕ) (r : Refus
 unfolding answer_of refused_by
 refused_number mesh f g numbers table r e = rw e
 
+-- the refusal of the settings is a row of document 01's table
+settings_row : (f g : ℕ) (r : Refusal) → settings_refusal f g ≡ Err r → in_table r ≡ true
+unfolding settings_refusal refuse_if in_table
+settings_row f g r e = grind arith
+
+-- and so is every refusal of the search
+pub search_in_table : (mesh : Mesh) (f g : ℕ) (numbers table : List ℕ) (r : Refusal) → search_refusal mesh f g numbers table ≡ Err r
+    → in_table r ≡ true
+unfolding search_refusal refuse_if in_table
+search_in_table mesh f g numbers table r e = go (refusal_of mesh (settings_refusal f g) numbers) refl e
+    where
+      go : (t : Tested) → refusal_of mesh (settings_refusal f g) numbers ≡ t
+          → result_and t (refuse_if (bad_table numbers table) ShortTable) ≡ Err r → in_table r ≡ true
+      go (Ok x) w e = grind arith
+      go (Err q) w e = refusal_in_table mesh (settings_refusal f g) numbers (settings_row f g) r (w ∙ e)
+
 -- a search that ended with skipped packets: the placed ones are in range and do not collide, and the place is the lowest skipped one
 pub record Ended (ps : List Packet) (table : List ℕ) (place : ℕ) : Type 0 where
   pub safe : Safe ps table
@@ -170,7 +189,7 @@ module _ (mesh : Mesh) (f g : ℕ) (numbers table : List ℕ) where
     where
       go : (t : Tested) → search_refusal mesh f g numbers table ≡ t
           → passes (packets_of mesh numbers) (table_after mesh f g numbers table) ≡ true
-      go (Err r) e = absurd (omega (arith, refused_number mesh f g numbers table r e, number_low r))
+      go (Err r) e = absurd (omega (arith, refused_number mesh f g numbers table r e, number_low r (search_in_table mesh f g numbers table r e)))
       go (Ok x) e =
           let n : number_for (skipped_in (packets_of mesh numbers) (search_of (packets_of mesh numbers) f g).table) ≡ 0 =
           ap (λ (a : Answer). a.number) (sym (answer_found mesh f g numbers table e)) ∙ is in
@@ -187,7 +206,7 @@ module _ (mesh : Mesh) (f g : ℕ) (numbers table : List ℕ) where
     where
       go : (t : Tested) → search_refusal mesh f g numbers table ≡ t
           → Ended (packets_of mesh numbers) (table_after mesh f g numbers table) (answer_of mesh f g numbers table).place
-      go (Err r) e = absurd (omega (arith, refused_number mesh f g numbers table r e, number_high r))
+      go (Err r) e = absurd (omega (arith, refused_number mesh f g numbers table r e, number_high r (search_in_table mesh f g numbers table r e)))
       go (Ok x) e =
           let n : number_for (skipped_in (packets_of mesh numbers) (search_of (packets_of mesh numbers) f g).table) ≡ 13 =
           ap (λ (a : Answer). a.number) (sym (answer_found mesh f g numbers table e)) ∙ is in

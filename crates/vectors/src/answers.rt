@@ -4,7 +4,7 @@ use model::Answer;
 use std::io::{Result, Write};
 
 // A buffer of so many bytes has room for the line of any answer with a table of 2,048 places.
-const LINE: usize = 32768;
+pub const LINE: usize = 32768;
 
 // Puts the numbers of a line, in the order of document 01, then the list, its length first.
 fn put_line<W: Write>(out: &mut W, answer: Answer, table: &[u32]) -> Result<()> {
@@ -29,9 +29,8 @@ fn put_line<W: Write>(out: &mut W, answer: Answer, table: &[u32]) -> Result<()> 
     writeln!(out)
 }
 
-// The line of an answer and a table, written at once; one that has no room is not written.
-pub fn put_answer(answer: Answer, table: &[u32]) {
-    let mut line = [0u8; LINE];
+// The line of an answer and a table, put together in a lent buffer and written at once; one that has no room is not written.
+pub fn put_answer(line: &mut [u8; LINE], answer: Answer, table: &[u32]) {
     let mut rest = &mut line[..];
     if put_line(&mut rest, answer, table).is_ok() {
         let len = LINE.saturating_sub(rest.len());

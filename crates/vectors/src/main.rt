@@ -5,6 +5,7 @@ mod answers;
 mod calls;
 mod stream;
 
+use answers::LINE;
 use calls::answer_call;
 use stream::Stream;
 
@@ -18,11 +19,12 @@ const CALLS: u32 = 100000;
 // Answers calls up to the end of the input, or up to a malformed one, which is said.
 fn main() {
     let mut stream = Stream::new();
+    let mut line = [0u8; LINE];
     for _ in 0..CALLS {
         if stream.ended() {
             return;
         }
-        answer_call(&mut stream);
+        answer_call(&mut stream, &mut line);
         if stream.malformed {
             io::write_all(STDOUT, b"malformed\n");
             return;
