@@ -1,4 +1,4 @@
--- What the program keeps: the pieces that it writes are the output text, and 65 flows are enough to be refused.
+-- What the program keeps: the pieces of a plan, and the lines that it writes, are the output text, and 65 flows are enough to be refused.
 use mathlib.Core.Path.{◌≡◌, refl, sym, ◌∙◌, ap}
 use mathlib.Core.Bool.{true}
 use mathlib.Core.List.{List}
