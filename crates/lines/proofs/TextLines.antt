@@ -24,9 +24,9 @@ use Rattle.lines.specs.declared.taking.Line.{Line}
 
 module _ (word text : List ℕ) (n at : ℕ) where
   -- no line feed ends it
-  pub line_unended : at ≤ length text → place_from feed text at ≡ None → None ≡ line_at word n text at
+  pub line_unended : place_from feed text at ≡ None → None ≡ line_at word n text at
   unfolding line_at feed_from
-  line_unended h e = sym (rw (le-ltb (at + index_of feed (drop at text)) (length text) (place_none feed text at h e)))
+  line_unended e = sym (rw (le-ltb (at + index_of feed (drop at text)) (length text) (place_none feed text at e)))
 
   module _ (end : ℕ) (e : place_from feed text at ≡ Some end) where
     -- the line is the slice up to its end

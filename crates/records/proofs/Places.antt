@@ -41,9 +41,9 @@ place_is b text from r e = ap (option_map (λ k. from + k)) e ∙ rw (index_is b
     go false = refl
 
 -- there is none from a place on
-pub place_none : (b : ℕ) (text : List ℕ) (from : ℕ) → from ≤ length text → place_from b text from ≡ None → length text ≤ from + index_of b (drop from text)
+pub place_none : (b : ℕ) (text : List ℕ) (from : ℕ) → place_from b text from ≡ None → length text ≤ from + index_of b (drop from text)
 unfolding place_from
-place_none b text from h e =
+place_none b text from e =
     omega (arith, ltb-false (index_of b (drop from text)) (length (drop from text)) (chosen_none _ _ e), length-drop from text)
 
 -- there is one
