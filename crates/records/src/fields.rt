@@ -1,5 +1,5 @@
 // A line taken apart: its word, and the numbers behind it.
-ghost use Rattle.std.specs.Prelude.{◌≡◌, ◌≤◌, length};
+ghost use Rattle.std.specs.Prelude.{◌≡◌, ◌≤◌, length, replicate, IfNone};
 ghost use Rattle.std.specs.Option.{option_map};
 ghost use Rattle.records.specs.Records.{place_from, record_of};
 
@@ -19,7 +19,7 @@ pub fn find(text: &[u8], byte: u8, from: usize) -> Option<usize>
 }
 
 // Reads the numbers of a line that is the record of a word and as many numbers as the slice has; of another line it may write some.
-fn read_into(line: &[u8], word: &[u8], numbers: &mut [u32]) -> Option<()>
+fn read_fields(line: &[u8], word: &[u8], numbers: &mut [u32]) -> Option<()>
     ensures { option_map (λ _. numbers.new) result ≡ record_of word.now (length numbers.old) line.now }
 {
     let mut fields = line.split(|byte| *byte == TAB);
@@ -33,6 +33,18 @@ fn read_into(line: &[u8], word: &[u8], numbers: &mut [u32]) -> Option<()>
         None => Some(()),
         Some(_) => None,
     }
+}
+
+// Reads the numbers of a line that is the record of a word and as many numbers as the slice has; of another line it leaves zeros.
+pub fn read_into(line: &[u8], word: &[u8], numbers: &mut [u32]) -> Option<()>
+    ensures read { option_map (λ _. numbers.new) result ≡ record_of word.now (length numbers.old) line.now }
+    ensures cleared { IfNone result (numbers.new ≡ replicate (length numbers.old) 0) }
+{
+    let read = read_fields(line, word, numbers);
+    if read.is_none() {
+        numbers.fill(0);
+    }
+    read
 }
 
 // The numbers of a line that is the record of a word and N numbers.

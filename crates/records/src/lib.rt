@@ -3,4 +3,4 @@
 
 mod fields;
 
-pub use fields::{LARGEST, find, read_record};
+pub use fields::{LARGEST, find, read_into, read_record};

@@ -1,9 +1,9 @@
--- `records::fields::read_into` meets its contract: the walk from field to field.
+-- `records::fields::read_fields` meets its contract: the walk from field to field.
 use Rattle.std.proofs.Common.{rules, arith, sym, ◌∙◌}
 use borrow.Author.Tests.{tests}
 use Rattle.records.proofs.Recording.{left_taken, left_none, left_some, wrong_word, walk_begins, walk_short, walk_long, walk_ends, walk_bad, walk_on}
 use Rattle.digits.proofs.Spelling.{number_most}
-use Rattle.records.proofs.fields.read_into.Goals as goal
+use Rattle.records.proofs.fields.read_fields.Goals as goal
 
 pub returns-then-ne : goal.returns-then-ne
 returns-then-ne c =
