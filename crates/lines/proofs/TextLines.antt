@@ -1,6 +1,6 @@
 -- Laws of the lines of a text, as the reader takes them from place to place. In order: the line at a place, as `read_line` answers it; the
 -- parts of the text from there on; then the first bad line, past a bad line and past a good one.
-use mathlib.Core.Path.{◌≡◌, refl, sym, ◌∙◌, ap}
+use mathlib.Core.Path.{◌≡◌, refl, sym, ◌∙◌, ap, subst}
 use mathlib.Core.Bool.{Bool, true, false}
 use mathlib.Core.List.{List, [], ◌∷◌}
 use Prim.Native.Nat.{ℕ, suc, ◌+◌, ◌-◌, ◌≤◌, ◌<◌}
@@ -9,7 +9,8 @@ use borrow.Author.Tests.{lt-ltb, le-ltb, ltb-true, ltb-false}
 use lib.Dec.{ltb, eqb}
 use lib.ListN.{length, take, drop, length-drop}
 use lib.Seq.{drop-drop, take_all}
-use Rattle.std.specs.Prelude.{Some, None}
+use Rattle.std.specs.Prelude.{Option, Some, None}
+use Rattle.std.specs.Option.{option_map}
 use Rattle.basics.specs.Choose.{both}
 use Rattle.basics.proofs.Choose.{both_not, both_first, both_second, chosen_none, chosen_some}
 use Rattle.words.specs.Bytes.{feed}
@@ -51,6 +52,13 @@ module _ (word text : List ℕ) (n at : ℕ) where
         let passes : is_record word n (line_from text at) ≡ true = ap (is_record word n) (sym line_slice) ∙ good.0 in
         let same : numbers_in (line_from text at) ≡ numbers = ap numbers_in (sym line_slice) ∙ good.1 in
         sym (rw (← place.0, lt-ltb end (length text) place.1, passes, same))
+
+-- how many numbers are asked for decides, however that is told
+pub line_counted : (word text numbers : List ℕ) (m n at : ℕ) (r : Option ℕ) → m ≡ n
+    → line_at word m text at ≡ option_map (λ next. record { numbers = numbers; next = next }) r
+    → line_at word n text at ≡ option_map (λ next. record { numbers = numbers; next = next }) r
+line_counted word text numbers m n at r e =
+    subst (λ (k : ℕ). line_at word k text at ≡ option_map {U = Line k} (λ next. record { numbers = numbers; next = next }) r) e
 
 -- ---- what a line that `read_line` answers says
 

@@ -5,4 +5,4 @@ mod flows;
 mod taking;
 
 pub use flows::{BadLine, KEPT_NUMBERS, Lines, MOST_KEPT, read_flows};
-pub use taking::{Line, read_line};
+pub use taking::{Line, read_line, read_line_into};
