@@ -1,48 +1,65 @@
 // An answer written in one line: its eight fields, the length of the lent table and its places, parted by blanks.
+ghost use Rattle.std.specs.Prelude.{◌≤◌};
+
 use crate::STDOUT;
 use model::Answer;
-use std::io::{Result, Write};
+use words::{FEED, put_byte, put_number};
 
 // A buffer of so many bytes has room for the line of any answer with a table of 2,048 places.
-pub const LINE: usize = 32768;
+const LINE: usize = 32768;
 
-// A blank and a number.
-// Kept: digits by the kit's `decimal`, as the printer writes them; by `write!` a line of a long table took half as long again.
-fn put<W: Write>(out: &mut W, n: u64) -> Result<()> {
-    let mut digits = [0u8; 20];
-    let k = io::decimal(n, &mut digits);
-    out.write_all(b" ")?;
-    out.write_all(&digits[..k])
+// The most bytes of a number, with the blank behind it.
+const NUMBER: usize = 21;
+
+// A line that is put together: the first len bytes of a buffer, which is made once for all answers.
+// Kept: digits by `put_number`, as the printer writes them; by `write!` a line of 1,024 places took half as long again.
+#[derive(Drop)]
+pub struct Line {
+    bytes: [u8; LINE],
+    len: usize,
+    ghost fits: { len ≤ 32768 },
 }
 
-// The numbers of a line, a blank before each, in the order of document 01, then the list, its length first.
-fn put_line<W: Write>(out: &mut W, answer: Answer, table: &[u32]) -> Result<()> {
-    let numbers = [
-        u64::from(answer.number),
-        u64::from(answer.place),
-        u64::from(answer.other),
-        u64::from(answer.hyper),
-        u64::from(answer.packets),
-        u64::from(answer.passes),
-        answer.tries,
-        u64::from(answer.skipped),
-        table.len() as u64,
-    ];
-    for n in numbers {
-        put(out, n)?;
+impl Line {
+    // A line of no bytes.
+    pub fn new() -> Line {
+        Line {
+            bytes: [0; LINE],
+            len: 0,
+        }
     }
-    for time in table {
-        put(out, u64::from(*time))?;
-    }
-    out.write_all(b"\n")
-}
 
-// The line of an answer and a table, put together in a lent buffer and written at once, without the blank before its first number; one
-// that has no room is not written.
-pub fn put_answer(line: &mut [u8; LINE], answer: Answer, table: &[u32]) {
-    let mut rest = &mut line[..];
-    if put_line(&mut rest, answer, table).is_ok() {
-        let len = LINE.saturating_sub(rest.len()).max(1);
-        io::write_all(STDOUT, &line[1..len]);
+    // A number and a blank behind it, where there is room for both.
+    fn put(&mut self, n: u64) {
+        if self.len <= LINE - NUMBER {
+            let next = put_number(&mut self.bytes, self.len, n);
+            self.len = put_byte(&mut self.bytes, next, b' ');
+        }
+    }
+
+    // Writes the line of an answer and a table at once: the eight fields in the order of document 01, then the list, its length first.
+    pub fn write(&mut self, answer: Answer, table: &[u32]) {
+        self.len = 0;
+        let numbers = [
+            u64::from(answer.number),
+            u64::from(answer.place),
+            u64::from(answer.other),
+            u64::from(answer.hyper),
+            u64::from(answer.packets),
+            u64::from(answer.passes),
+            answer.tries,
+            u64::from(answer.skipped),
+            table.len() as u64,
+        ];
+        for n in numbers {
+            self.put(n);
+        }
+        for time in table {
+            self.put(u64::from(*time));
+        }
+        if let Some(last) = self.bytes[..self.len].last_mut() {
+            *last = FEED;
+        }
+        io::write_all(STDOUT, &self.bytes[..self.len]);
     }
 }

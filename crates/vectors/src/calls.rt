@@ -1,6 +1,6 @@
 // A call of each kind: read, made, and its answer written.
 use crate::STDOUT;
-use crate::answers::{LINE, put_answer};
+use crate::answers::Line;
 use crate::stream::Stream;
 use audit::check;
 use model::Mesh;
@@ -32,17 +32,17 @@ fn next_mesh(stream: &mut Stream) -> Mesh {
 }
 
 // A check: the mesh, the numbers of the flows, the table.
-fn check_call(stream: &mut Stream, line: &mut [u8; LINE]) {
+fn check_call(stream: &mut Stream, line: &mut Line) {
     let mut numbers = [0u32; NUMBERS];
     let mut table = [0u32; PLACES];
     let mesh = next_mesh(stream);
     let numbers = stream.numbers(&mut numbers);
     let table = stream.numbers(&mut table);
-    put_answer(line, check(mesh, numbers, table), table)
+    line.write(check(mesh, numbers, table), table)
 }
 
 // A search: the mesh, F and G, the numbers of the flows, the lent table.
-fn search_call(stream: &mut Stream, line: &mut [u8; LINE]) {
+fn search_call(stream: &mut Stream, line: &mut Line) {
     let mut numbers = [0u32; NUMBERS];
     let mut table = [0u32; PLACES];
     let mesh = next_mesh(stream);
@@ -51,7 +51,7 @@ fn search_call(stream: &mut Stream, line: &mut [u8; LINE]) {
     let numbers = stream.numbers(&mut numbers);
     let table = stream.numbers(&mut table);
     let answer = search(mesh, pruning, threshold, numbers, table);
-    put_answer(line, answer, table)
+    line.write(answer, table)
 }
 
 // A text: its length and a line feed, then its bytes.
@@ -66,7 +66,7 @@ fn text_call(stream: &mut Stream) {
 
 // Answers the call whose kind its first letter tells, the line of its answer put together in a lent buffer; another letter makes it
 // malformed.
-pub fn answer_call(stream: &mut Stream, line: &mut [u8; LINE]) {
+pub fn answer_call(stream: &mut Stream, line: &mut Line) {
     match stream.byte() {
         b'c' => {
             stream.word(b"heck ");

@@ -5,7 +5,7 @@ mod answers;
 mod calls;
 mod stream;
 
-use answers::LINE;
+use answers::Line;
 use calls::answer_call;
 use stream::Stream;
 
@@ -19,7 +19,7 @@ const CALLS: u32 = 100000;
 // Answers calls up to the end of the input, or up to a malformed one, which is said.
 fn main() {
     let mut stream = Stream::new();
-    let mut line = [0u8; LINE];
+    let mut line = Line::new();
     for _ in 0..CALLS {
         if stream.ended() {
             return;
