@@ -6,7 +6,7 @@ ghost use Rattle.gaps.specs.Sweeps.{time_past, EndAhead, Back};
 
 use kept::Taken;
 use load::Traffic;
-use marks::has_mark;
+use marks::{Mark, has_mark};
 use mesh::ALL_LINKS;
 
 // Where a packet goes: the time taken, or nowhere; and how many times were tried.
@@ -78,12 +78,7 @@ fn back_to(taken: &Taken, next: usize, time: u32) -> usize
 // before its end: the next time is the first at its end or past it, and those jumped over count as tried. Placed packets that are over
 // stay over, so the sweep never goes back; one that starts after the packet's end ends it, since all later ones start later.
 // Kept: traffic beside taken, and no struct of both: between two calls a pass lends taken to `settle` as `&mut`.
-pub fn gap_for(
-    traffic: &Traffic,
-    taken: &Taken,
-    marks: &[Option<u8>; ALL_LINKS],
-    sought: &Sought,
-) -> Gap
+pub fn gap_for(traffic: &Traffic, taken: &Taken, marks: &[Mark; ALL_LINKS], sought: &Sought) -> Gap
     requires { Seeks traffic.now marks.now taken.now sought.now }
     ensures { result ≡ gap_for traffic.now taken.now sought.now }
 {

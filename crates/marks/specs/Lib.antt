@@ -1,2 +1,3 @@
--- The marks of the links of a path.
+-- The marks of the links of a path, and what byte each mark is.
 pub mod Marks
+pub mod Byte

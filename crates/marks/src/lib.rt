@@ -3,4 +3,4 @@
 
 mod marks;
 
-pub use marks::{has_mark, stamp};
+pub use marks::{Mark, has_mark, stamp};

@@ -4,6 +4,7 @@ ghost use Rattle.passes.specs.Stand.{Runs, Ran};
 
 use gaps::Placed;
 use load::Traffic;
+use marks::Mark;
 use mesh::ALL_LINKS;
 use placing::place;
 use settling::{State, Turned, nothing_taken, settle};
@@ -29,7 +30,7 @@ pub fn pass(state: &mut State, traffic: &Traffic, settings: Settings) -> Passed
     ensures { Ran (packets_held traffic.now) settings.pruning settings.threshold state.old state.new result }
 {
     let mut taken = nothing_taken();
-    let mut marks = [None; ALL_LINKS];
+    let mut marks = [Mark::NONE; ALL_LINKS];
     let mut tries: u64 = 0;
     // Kept: a packet that is turned away moves the packets before it, so the order is lent to no iterator.
     for at in state.base..traffic.count {

@@ -6,7 +6,7 @@ ghost use Rattle.placing.specs.Held.{Over, Placeable, place_in, stamped_for};
 use gaps::{Gap, Sought, gap_for};
 use kept::Taken;
 use load::Traffic;
-use marks::stamp;
+use marks::{Mark, stamp};
 use mesh::ALL_LINKS;
 use twins::resume;
 
@@ -27,7 +27,7 @@ fn not_over(taken: &Taken, time: u32, longest: u32) -> usize
 pub fn place(
     traffic: &Traffic,
     taken: &Taken,
-    marks: &mut [Option<u8>; ALL_LINKS],
+    marks: &mut [Mark; ALL_LINKS],
     pruning: u32,
     p: usize,
 ) -> Gap

@@ -15,6 +15,6 @@ loop-link-init c = refl
 pub loop-link-preserved : goal.loop-link-preserved
 unfolding stamped
 loop-link-preserved c =
-    rw c.from.ensures
+    rw (c.from.ensures, c.of-mark.ensures)
     (ap (λ (m : List (Option ℕ)). set m (get_or c.args.path.now c.loop-link.link-index 0) (Some c.args.own)) c.loop-link.invariant
     ∙ ap (λ (n : ℕ). stamped c.args.path.now c.args.own n c.args.marks.now) (sym (add-one c.loop-link.link-index)))
