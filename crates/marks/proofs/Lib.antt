@@ -1,3 +1,4 @@
 -- The laws of the marks, and that every answer is determined.
+pub mod Bytes
 pub mod Marking
 pub mod Determined
