@@ -168,11 +168,11 @@ pub search_in_table : (mesh : Mesh) (f g : ℕ) (numbers table : List ℕ) (r : 
     → in_table r ≡ true
 unfolding search_refusal refuse_if in_table
 search_in_table mesh f g numbers table r e = go (refusal_of mesh (settings_refusal f g) numbers) refl e
-    where
-      go : (t : Tested) → refusal_of mesh (settings_refusal f g) numbers ≡ t
-          → result_and t (refuse_if (bad_table numbers table) ShortTable) ≡ Err r → in_table r ≡ true
-      go (Ok x) w e = grind arith
-      go (Err q) w e = refusal_in_table mesh (settings_refusal f g) numbers (settings_row f g) r (w ∙ e)
+  where
+    go : (t : Tested) → refusal_of mesh (settings_refusal f g) numbers ≡ t
+        → result_and t (refuse_if (bad_table numbers table) ShortTable) ≡ Err r → in_table r ≡ true
+    go (Ok x) w e = grind arith
+    go (Err q) w e = refusal_in_table mesh (settings_refusal f g) numbers (settings_row f g) r (w ∙ e)
 
 -- a search that ended with skipped packets: the placed ones are in range and do not collide, and the place is the lowest skipped one
 pub record Ended (ps : List Packet) (table : List ℕ) (place : ℕ) : Type 0 where

@@ -57,9 +57,9 @@ impl Line {
         for time in table {
             self.put(u64::from(*time));
         }
-        if let Some(last) = self.bytes[..self.len].last_mut() {
-            *last = FEED;
+        if let Some(last) = self.len.checked_sub(1) {
+            self.bytes[last] = FEED;
+            io::write_all(STDOUT, &self.bytes[..self.len]);
         }
-        io::write_all(STDOUT, &self.bytes[..self.len]);
     }
 }
