@@ -30,7 +30,7 @@ impl Mark {
     pub const NONE: Mark = Mark(0);
 
     // The mark of a flow.
-    fn of(own: usize) -> Mark
+    pub fn of(own: usize) -> Mark
         requires { own < 255 }
         ensures { result ≡ Some own }
     {
