@@ -2,14 +2,12 @@
 ghost use Rattle.std.specs.Prelude.{◌≤◌};
 
 use crate::STDOUT;
+use crate::stream::NUMBER;
 use model::Answer;
 use words::{FEED, put_byte, put_number};
 
 // A buffer of so many bytes has room for the line of any answer with a table of 2,048 places.
 const LINE: usize = 32768;
-
-// The most bytes of a number, with the blank behind it.
-const NUMBER: usize = 21;
 
 // A line that is put together: the first len bytes of a buffer, which is made once for all answers.
 // Kept: digits by `put_number`, as the printer writes them; by `write!` a line of 1,024 places took half as long again.

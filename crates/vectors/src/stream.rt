@@ -8,7 +8,7 @@ const STDIN: i32 = 0;
 const BUFFER: usize = 65536;
 
 // The most bytes of a number, with the one that ends it.
-const NUMBER: usize = 21;
+pub const NUMBER: usize = 21;
 
 // Standard input: the bytes that were read, of which those from `at` on to `end` are still to come.
 #[derive(Drop)]
